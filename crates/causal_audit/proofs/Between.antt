@@ -1,12 +1,12 @@
 -- The dependents of a delivery after one more entry, and the instants between two changes.
-use Rattle.causal_audit.proofs.Common.{ℕ, ◌≡◌, ◌≢◌, ◌+◌, inl, inr, Bool, true, false, cond, List, ◌∷◌, length, Some, None, refl, sym, ap, subst, ◌∙◌, zero, suc, ◌-◌, ◌<◌, ◌≤◌, [], arith, ◌⊎◌, ◌↔◌, ◌&&◌, ◌||◌, not, ◌==◌, nat_cmp, FinSet, contains, insert, remove, false≢true, eq-eqb, ne_eqb, cases_lt, cond-true, cond-false, nat_tests, Pid, Det, Entry, Send, Deliver, Stable, Crash, Restart, Forget, is_down, lane, instant, entry_at, det_at, is_stable, logs, list_has, AreLegalEntries, first_fault, actor, IsEventOf, Reaches, itself, onward, Depends, event_below, reaches_old, depends_restarted, reaches_begins, accepted_forward, delivers_up, same_det, HasOrphan, instants_stay, one_more_instant, last_instant, accepted_then, det_then, det_within, instant_length}
+use Rattle.causal_audit.proofs.Common.{ℕ, ◌≡◌, ◌≢◌, ◌+◌, inl, inr, Bool, true, false, cond, List, ◌∷◌, length, Some, None, refl, sym, ap, subst, ◌∙◌, ◌<◌, ◌≤◌, [], arith, ◌⊎◌, ◌↔◌, ◌&&◌, not, ◌==◌, nat_cmp, FinSet, contains, insert, remove, eq-eqb, ne_eqb, cases_lt, cond-true, cond-false, nat_tests, Pid, Det, Entry, Send, Deliver, Stable, Crash, Restart, Forget, is_down, lane, instant, entry_at, det_at, is_stable, logs, list_has, AreLegalEntries, first_fault, actor, IsEventOf, Reaches, itself, onward, Depends, event_below, reaches_old, depends_restarted, reaches_begins, accepted_forward, delivers_up, HasOrphan, instants_stay, one_more_instant, last_instant, det_then, det_within, instant_length}
 use Rattle.causal_audit.specs.Inside.DeliveryStates.{AreDependents, IsNextReached, IsDeliveryState}
 use Rattle.causal_audit.proofs.Legal.{sends_up}
 use Rattle.causal_holders.proofs.Lemmas.Sets.{inserted, removed}
 use Rattle.causal_audit.specs.Laws.{down_or_holding, IsExposed}
 use Rattle.causal_audit.specs.declared.delivery_state.DeliveryState.{DeliveryState}
 use Rattle.causal_trace.specs.Past.{mentioned_dets}
-use Rattle.causal_audit.specs.Quiet.{is_transition, IsQuiet, AreQuiet, SameDeliveryState, InstantsAgree, OrphansAgree}
+use Rattle.causal_audit.specs.Quiet.{is_transition, IsQuiet, SameDeliveryState}
 use Rattle.causal_audit.proofs.Lemmas.OrphansByCounts.{exposed, unexposed}
 use Rattle.causal_trace.proofs.Lemmas.DependenceSteps.{precedes_more}
 
@@ -29,28 +29,7 @@ depends_more e past k p same d = grind (arith, reaches_more e past k d.event d.r
 
 -- a dependent after the entry was one before, or the entry is its event and is reached
 pub depends_before : (n : ℕ) (e : Entry) (past : List Entry) (k p : ℕ) → AreLegalEntries n (e ∷ past) → IsNoTurn e past p → Depends (e ∷ past) k p → Depends past k p ⊎ ((actor e ≡ Some p) × Reaches (e ∷ past) k (length past))
-depends_before n e past k p formed same d = go d.present
-  where
-    go : IsEventOf (e ∷ past) d.event p (lane (e ∷ past) p) → Depends past k p ⊎ ((actor e ≡ Some p) × Reaches (e ∷ past) k (length past))
-    go (inl h) = inl (record {
-      up = sym same.0 ∙ d.up;
-      event = d.event;
-      present = subst (λ l. IsEventOf past d.event p l) same.1 h;
-      reached = reaches_old e past k (accepted_forward n (e ∷ past) formed) d.event (event_below past d.event p (lane (e ∷ past) p) h) d.reached;
-    })
-    go (inr h) = inr (h.1, subst (Reaches (e ∷ past) k) h.0 d.reached)
-
-inserted_here : (s : FinSet nat_cmp) (p q : ℕ) → q ≡ p → contains (insert s p) q ≡ true
-inserted_here s p q same = inserted s p q ∙ ap (λ b. b || contains s q) (eq-eqb p q (sym same))
-
-inserted_other : (s : FinSet nat_cmp) (p q : ℕ) → q ≢ p → contains (insert s p) q ≡ contains s q
-inserted_other s p q apart = inserted s p q ∙ ap (λ b. b || contains s q) (ne_eqb p q (λ h. apart (sym h)))
-
-removed_here : (s : FinSet nat_cmp) (p q : ℕ) → q ≡ p → contains (remove s p) q ≡ false
-removed_here s p q same = removed s p q ∙ ap (λ b. not b && contains s q) (eq-eqb p q (sym same))
-
-removed_other : (s : FinSet nat_cmp) (p q : ℕ) → q ≢ p → contains (remove s p) q ≡ contains s q
-removed_other s p q apart = removed s p q ∙ ap (λ b. not b && contains s q) (ne_eqb p q (λ h. apart (sym h)))
+depends_before n e past k p formed same d = grind (arith, event_below, reaches_old e past k (accepted_forward n (e ∷ past) formed))
 
 module _ (n : ℕ) (e : Entry) (past : List Entry) (k : ℕ) (formed : AreLegalEntries n (e ∷ past)) (s : FinSet nat_cmp) (are : AreDependents past k s) where
   -- an entry that does not crash or restart p and is not a reached event of p
@@ -63,14 +42,11 @@ module _ (n : ℕ) (e : Entry) (past : List Entry) (k : ℕ) (formed : AreLegalE
 
   -- a reached event
   pub one_dependent_more : (w : ℕ) → actor e ≡ Some w → is_down past w ≡ false → ((p : ℕ) → IsNoTurn e past p) → Reaches (e ∷ past) k (length past) → AreDependents (e ∷ past) k (insert s w)
-  one_dependent_more w of up same reach p = grind (arith, inserted_here, departures, inserted_other)
+  one_dependent_more w of up same reach p = grind (arith, inserted, departures)
 
   -- a crash or restart of one process
   one_dependent_less : (w : ℕ) → actor e ≡ None → ((p : ℕ) → p ≢ w → IsNoTurn e past p) → (Depends (e ∷ past) k w → ⊥) → AreDependents (e ∷ past) k (remove s w)
-  one_dependent_less w none same down_or_holding p = grind (arith, removed_here, departures, removed_other)
-
-pub no_event : {G : Type 0} (e : Entry) (p : ℕ) → actor e ≡ None → actor e ≡ Some p → G
-no_event e p none who = absurd (let x : None ≡ Some p = sym none ∙ who in cc)
+  one_dependent_less w none same down_or_holding p = grind (arith, removed, departures)
 
 -- as above, for an entry that is given by an equation
 module _ (n : ℕ) (x : Entry) (past : List Entry) (k : ℕ) (formed : AreLegalEntries n (x ∷ past)) (reached : Bool) (tells : IsNextReached past x k reached) (s : FinSet nat_cmp) (are : AreDependents past k s) where
@@ -84,8 +60,7 @@ module _ (n : ℕ) (x : Entry) (past : List Entry) (k : ℕ) (formed : AreLegalE
   sent_reached from to ssn is hit = grind (arith, at_entry (Send from to ssn), one_dependent_more, sends_up)
 
   pub delivered_reached : (to : Pid) (send rsn : ℕ) (listed : List Det) → x ≡ Deliver to send rsn listed → reached ≡ true → AreDependents (x ∷ past) k (insert s to.0)
-  delivered_reached to send rsn listed is hit =
-      at_entry (Deliver to send rsn listed) _ is (λ legal told. one_dependent_more n (Deliver to send rsn listed) past k legal s are to.0 refl (delivers_up n past to send rsn listed legal.1) (λ p. (refl, refl)) ((told to.0 refl).0 hit))
+  delivered_reached to send rsn listed is hit = grind (arith, at_entry (Deliver to send rsn listed), one_dependent_more, delivers_up)
 
   pub sent_unreached : (from to : Pid) (ssn : ℕ) → x ≡ Send from to ssn → reached ≡ false → AreDependents (x ∷ past) k s
   sent_unreached from to ssn is missed = grind (arith, at_entry (Send from to ssn), same_dependents)
@@ -94,10 +69,10 @@ module _ (n : ℕ) (x : Entry) (past : List Entry) (k : ℕ) (formed : AreLegalE
   delivered_unreached to send rsn listed is missed = grind (arith, at_entry (Deliver to send rsn listed), same_dependents)
 
   pub stored : (det : Det) → x ≡ Stable det → AreDependents (x ∷ past) k s
-  stored det is = at_entry (Stable det) _ is (λ legal told. same_dependents n (Stable det) past k legal s are (λ p. (refl, refl)) (λ p who. no_event (Stable det) p refl who))
+  stored det is = grind (arith, at_entry (Stable det), same_dependents)
 
   pub forgotten : (who : Pid) (listed : List Det) → x ≡ Forget who listed → AreDependents (x ∷ past) k s
-  forgotten who listed is = at_entry (Forget who listed) _ is (λ legal told. same_dependents n (Forget who listed) past k legal s are (λ p. (refl, refl)) (λ p of. no_event (Forget who listed) p refl of))
+  forgotten who listed is = grind (arith, at_entry (Forget who listed), same_dependents)
 
   pub crashed : (who : Pid) → x ≡ Crash who → AreDependents (x ∷ past) k (remove s who.0)
   crashed who is = grind (arith, at_entry (Crash who), one_dependent_less, eq-eqb who.0 who.0 refl)
@@ -114,39 +89,15 @@ module _ (n : ℕ) (x : Entry) (past : List Entry) (k : ℕ) (formed : AreLegalE
 
 -- an entry that is not a crash or restart preserves the down processes and the lane of each process
 pub no_turn_stays : (e : Entry) (past : List Entry) → is_transition e ≡ false → (p : ℕ) → IsNoTurn e past p
-no_turn_stays (Send from to ssn) past h p = (refl, refl)
-no_turn_stays (Deliver to send rsn listed) past h p = (refl, refl)
-no_turn_stays (Stable det) past h p = (refl, refl)
-no_turn_stays (Crash who) past h p = absurd (false≢true (sym h))
-no_turn_stays (Restart who listed) past h p = absurd (false≢true (sym h))
-no_turn_stays (Forget who listed) past h p = (refl, refl)
-
-or_unlisted : (w l b : Bool) → l ≡ false → b ≡ ((w && l) || b)
-or_unlisted w l b h = grind (arith, nat_tests)
-
-and_unlisted : (w l b : Bool) → l ≡ false → b ≡ (not (w && l) && b)
-and_unlisted w l b h = grind (arith, nat_tests)
-
-or_false : (a b : Bool) → (a || false) ≡ false → b ≡ (a || b)
-or_false a b h = grind (arith, nat_tests)
+no_turn_stays e past h p = grind arith
 
 -- the logs that contain a determinant that it does not mention
 pub logs_stay : (e : Entry) (past : List Entry) (d : Det) → is_transition e ≡ false → list_has (mentioned_dets e) d ≡ false → (p : ℕ) → logs past p d ≡ logs (e ∷ past) p d
-logs_stay (Send from to ssn) past d h l p = refl
-logs_stay (Deliver to send rsn listed) past d h l p = or_unlisted (to.0 == p) (list_has listed d) (logs past p d) l
-logs_stay (Stable det) past d h l p = refl
-logs_stay (Crash who) past d h l p = absurd (false≢true (sym h))
-logs_stay (Restart who listed) past d h l p = absurd (false≢true (sym h))
-logs_stay (Forget who listed) past d h l p = and_unlisted (who.0 == p) (list_has listed d) (logs past p d) l
+logs_stay e past d h l p = grind (arith, nat_tests)
 
 -- and whether that determinant is stable
 pub stable_stays : (e : Entry) (past : List Entry) (d : Det) → list_has (mentioned_dets e) d ≡ false → is_stable past d ≡ is_stable (e ∷ past) d
-stable_stays (Send from to ssn) past d l = refl
-stable_stays (Deliver to send rsn listed) past d l = refl
-stable_stays (Stable det) past d l = or_false (same_det d det) (is_stable past d) l
-stable_stays (Crash who) past d l = refl
-stable_stays (Restart who listed) past d l = refl
-stable_stays (Forget who listed) past d l = refl
+stable_stays e past d l = grind (arith, nat_tests)
 
 -- so the states before and after a quiet entry agree
 pub quiet_step : (n : ℕ) (e : Entry) (past : List Entry) (k : ℕ) (d : Det) → AreLegalEntries n (e ∷ past) → IsQuiet past e k d → SameDeliveryState past (e ∷ past) k d
@@ -173,49 +124,14 @@ next_entry (e ∷ past) v below =
           )
     ]
 
-agree_then : (k : ℕ) (d : Det) (one two three : List Entry) → SameDeliveryState one two k d → SameDeliveryState two three k d → SameDeliveryState one three k d
+pub agree_then : (k : ℕ) (d : Det) (one two three : List Entry) → SameDeliveryState one two k d → SameDeliveryState two three k d → SameDeliveryState one three k d
 agree_then k d one two three a b = grind arith
-
-agree_itself : (k : ℕ) (d : Det) (past : List Entry) → SameDeliveryState past past k d
-agree_itself k d past = record { down = λ p. refl; logged = λ p. refl; stable = refl; dependents = λ p. (λ x. x, λ x. x) }
 
 pub agree_back : (k : ℕ) (d : Det) (one other : List Entry) → SameDeliveryState one other k d → SameDeliveryState other one k d
 agree_back k d one other a = grind arith
 
-agree_next : (n : ℕ) (past : List Entry) (k : ℕ) (d : Det) (v : ℕ) → AreLegalEntries n past → v < length past → ((e : Entry) → entry_at past v ≡ Some e → IsQuiet (instant past v) e k d) → SameDeliveryState (instant past v) (instant past (v + 1)) k d
-agree_next n past k d v formed below quiet =
-    let found = next_entry past v below in
-    subst (λ x. SameDeliveryState (instant past v) x k d) (sym found.2)
-    (quiet_step n found.0 (instant past v) k d (subst (AreLegalEntries n) found.2 (accepted_then n past (v + 1) formed)) (quiet found.0 found.1))
-
-agree_for : (n : ℕ) (past : List Entry) (k : ℕ) (d : Det) (t more : ℕ) → AreLegalEntries n past → t + more ≤ length past → AreQuiet past t (t + more) k d → SameDeliveryState (instant past t) (instant past (t + more)) k d
-agree_for n past k d t zero formed within quiet = let same : t ≡ t + 0 = omega arith in subst (λ x. SameDeliveryState (instant past t) (instant past x) k d) same (agree_itself k d (instant past t))
-agree_for n past k d t (suc more) formed within quiet =
-    let same : t + more + 1 ≡ t + suc more = omega arith in
-    subst (λ x. SameDeliveryState (instant past t) (instant past x) k d) same
-    (agree_then k d (instant past t) (instant past (t + more)) (instant past (t + more + 1))
-    (agree_for n past k d t more formed (omega (arith, within)) (λ v e above below at. quiet v e above (omega (arith, below)) at))
-    (agree_next n past k d (t + more) formed (omega (arith, within)) (λ e at. quiet (t + more) e (omega arith) (omega arith) at)))
-
--- two instants agree if each entry between them is quiet
-pub instants_agree : InstantsAgree
-instants_agree n past k d t u formed up within quiet =
-    let same : t + (u - t) ≡ u = omega (arith, up) in
-    subst (λ x. SameDeliveryState (instant past t) (instant past x) k d) same
-    (agree_for n past k d t (u - t) formed (omega (arith, same, within)) (λ v e above below at. quiet v e above (omega (arith, below, same)) at))
-
-exposed_agrees : (n f : ℕ) (one other : List Entry) (k : ℕ) (d : Det) → SameDeliveryState one other k d → IsExposed n f one k d → IsExposed n f other k d
+pub exposed_agrees : (n f : ℕ) (one other : List Entry) (k : ℕ) (d : Det) → SameDeliveryState one other k d → IsExposed n f one k d → IsExposed n f other k d
 exposed_agrees n f one other k d a e = grind arith
-
--- so a delivery before both has an orphan at both or at neither
-pub orphans_agree : OrphansAgree
-orphans_agree n f past k d t u formed at made up within quiet =
-    let a = instants_agree n past k d t u formed up within quiet in
-    let at_t = det_then past t k made (omega (arith, up, within)) ∙ at in
-    let at_u = det_then past u k (omega (arith, made, up)) within ∙ at in (
-      λ list_has. unexposed n f (instant past u) k d at_u (exposed_agrees n f (instant past t) (instant past u) k d a (exposed n f (instant past t) k d at_t list_has)),
-      λ list_has. unexposed n f (instant past t) k d at_t (exposed_agrees n f (instant past u) (instant past t) k d (agree_back k d (instant past t) (instant past u) a) (exposed n f (instant past u) k d at_u list_has)),
-    )
 
 -- the state of the delivery at one instant is its state at the other
 pub state_agrees : (one other : List Entry) (k : ℕ) (d : Det) (s : DeliveryState) → SameDeliveryState one other k d → IsDeliveryState one k d s → IsDeliveryState other k d s
@@ -234,11 +150,4 @@ none_agrees n f past k d t w at up within agree list_has =
 
 -- an event adds no dependent if k reaches an earlier event of its lane
 pub known_already : (n : ℕ) (past : List Entry) (e : Entry) (k i p : ℕ) → first_fault n past e ≡ None → actor e ≡ Some p → IsEventOf past i p (lane past p) → Reaches past k i → Depends past k p
-known_already n past (Send from to ssn) k i p legal of present reach = grind (arith, sends_up n past from to ssn legal)
-known_already n past (Deliver to send rsn listed) k i p legal of present reach =
-    let one : to.0 ≡ p = cc of in
-    record { up = subst (λ q. is_down past q ≡ false) one (delivers_up n past to send rsn listed legal); event = i; present = present; reached = reach }
-known_already n past (Stable det) k i p legal of present reach = absurd (let x : None ≡ Some p = of in cc)
-known_already n past (Crash who) k i p legal of present reach = absurd (let x : None ≡ Some p = of in cc)
-known_already n past (Restart who listed) k i p legal of present reach = absurd (let x : None ≡ Some p = of in cc)
-known_already n past (Forget who listed) k i p legal of present reach = absurd (let x : None ≡ Some p = of in cc)
+known_already n past e k i p legal of present reach = grind (arith, sends_up, delivers_up)

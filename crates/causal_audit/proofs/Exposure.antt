@@ -43,9 +43,7 @@ module _ (n f : ℕ) (past : List Entry) (k : ℕ) (d : Det) (formed : AreLegalE
   unheld_is p depends without = grind (arith, contains-difference nat_cmp_total s.dependents s.holders p)
 
   unheld_parts : (p : ℕ) → contains unheld p ≡ true → Depends past k p × (logs past p d ≡ false)
-  unheld_parts p h =
-      let both = parts (contains s.dependents p) (contains s.holders p) (sym (contains-difference nat_cmp_total s.dependents s.holders p) ∙ h) in
-      ((state.dependents p).0 both.0, sym (state.holders p) ∙ both.1)
+  unheld_parts p h = grind (arith, contains-difference nat_cmp_total s.dependents s.holders p, parts)
 
   -- if more than f processes are down or hold the determinant, there is no orphan
   pub not_many : f < len crash → HasOrphan n f past k → ⊥

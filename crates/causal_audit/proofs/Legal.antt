@@ -1,5 +1,5 @@
 -- Facts about the entries of a well-formed run.
-use Rattle.causal_audit.proofs.Common.{ℕ, ◌≡◌, ◌<◌, inl, inr, true, false, cond, List, [], ◌∷◌, length, Option, Some, None, refl, arith, ◌==◌, option_map_or, false≢true, eqb-true, Pid, Det, Entry, Send, Deliver, Stable, Crash, Restart, Forget, is_down, lane, listed_in, listed_by, entry_at, is_send_to, is_sent_to, det_of, det_at, first_fault, AreLegalEntries, actor, is_delivery_of, IsEventOf, Delivers, row_fails}
+use Rattle.causal_audit.proofs.Common.{ℕ, ◌≡◌, ◌<◌, inl, inr, true, false, cond, List, [], ◌∷◌, length, Option, Some, None, refl, arith, ◌==◌, option_map_or, false≢true, eqb-true, Pid, Det, Entry, Send, Deliver, is_down, lane, listed_in, listed_by, entry_at, is_send_to, is_sent_to, det_of, det_at, first_fault, AreLegalEntries, actor, is_delivery_of, IsEventOf, Delivers, row_fails}
 use Rattle.causal_audit.specs.Numbers.{is_delivery}
 use Rattle.causal_trace.specs.Rows.{rows_within, refusal_rows}
 use Rattle.causal_trace.specs.declared.fault.TraceFault.TheVariants.{NotUp}
@@ -15,12 +15,7 @@ module _ (n : ℕ) (past : List Entry) where
 
   -- the process of an event is a process of the run, and up
   pub actor_inside : (e : Entry) (p : ℕ) → first_fault n past e ≡ None → actor e ≡ Some p → p < n
-  actor_inside (Send from to ssn) p legal of = let k : from.0 ≡ p = cc of in omega (arith, k, send_inside n past from to ssn legal)
-  actor_inside (Deliver to send rsn listed) p legal of = let k : to.0 ≡ p = cc of in omega (arith, k, deliver_inside n past to send rsn listed legal)
-  actor_inside (Stable det) p legal of = absurd (let k : None ≡ Some p = of in cc)
-  actor_inside (Crash who) p legal of = absurd (let k : None ≡ Some p = of in cc)
-  actor_inside (Restart who listed) p legal of = absurd (let k : None ≡ Some p = of in cc)
-  actor_inside (Forget who listed) p legal of = absurd (let k : None ≡ Some p = of in cc)
+  actor_inside e p legal of = grind (arith, send_inside, deliver_inside)
 
   -- the run is below its maximum length before the entry
   pub entry_short : (e : Entry) → first_fault n past e ≡ None → length past < 16777216
@@ -34,22 +29,12 @@ event_inside n (e ∷ past) h i p l (inr at) = actor_inside n past e p h.1 at.1
 
 -- an entry that passes the check for a send to p is a send
 pub sent_is : (p : ℕ) (o : Option Entry) → option_map_or (is_send_to p) o false ≡ true → (sender : Pid) × (to : Pid) × (ssn : ℕ) × (o ≡ Some (Send sender to ssn))
-sent_is p None h = absurd (false≢true h)
-sent_is p (Some (Send from to ssn)) h = (from, to, ssn, refl)
-sent_is p (Some (Deliver to send rsn listed)) h = absurd (false≢true h)
-sent_is p (Some (Stable det)) h = absurd (false≢true h)
-sent_is p (Some (Crash who)) h = absurd (false≢true h)
-sent_is p (Some (Restart who listed)) h = absurd (false≢true h)
-sent_is p (Some (Forget who listed)) h = absurd (false≢true h)
+sent_is p o h = grind arith
 
 -- a send is an event
 sends_to : (past : List Entry) (p : ℕ) (e : Entry) → is_send_to p e ≡ true → (q : ℕ) × (actor e ≡ Some q)
 sends_to past p (Send from to ssn) h = (from.0, refl)
-sends_to past p (Deliver to send rsn listed) h = absurd (false≢true h)
-sends_to past p (Stable det) h = absurd (false≢true h)
-sends_to past p (Crash who) h = absurd (false≢true h)
-sends_to past p (Restart who listed) h = absurd (false≢true h)
-sends_to past p (Forget who listed) h = absurd (false≢true h)
+sends_to past p e h = absurd (false≢true h)
 
 pub sent_event : (past : List Entry) (send p : ℕ) → is_sent_to past send p ≡ true → (q : ℕ) × (l : ℕ) × IsEventOf past send q l
 sent_event [] send p h = absurd (false≢true h)
@@ -61,12 +46,8 @@ sent_event (e ∷ past) send p h =
 
 -- an entry that delivers is an event
 delivering : (i : ℕ) (e : Entry) → is_delivery_of i e ≡ true → (p : ℕ) × (actor e ≡ Some p)
-delivering i (Send from to ssn) h = absurd (false≢true h)
 delivering i (Deliver to send rsn listed) h = (to.0, refl)
-delivering i (Stable det) h = absurd (false≢true h)
-delivering i (Crash who) h = absurd (false≢true h)
-delivering i (Restart who listed) h = absurd (false≢true h)
-delivering i (Forget who listed) h = absurd (false≢true h)
+delivering i e h = absurd (false≢true h)
 
 -- the receiver of a message, as an event
 pub receiver_event : (past : List Entry) (j i : ℕ) → Delivers past j i → (p : ℕ) × (l : ℕ) × IsEventOf past j p l
@@ -82,12 +63,8 @@ sender_event n (e ∷ past) h j i (inr d) = let sent = delivery_sent n past e i 
 
 -- an entry with a determinant is a delivery, and an event
 pub det_delivers : (past : List Entry) (e : Entry) (d : Det) → det_of past e ≡ Some d → (p : ℕ) × (actor e ≡ Some p) × (is_delivery e ≡ true)
-det_delivers past (Send from to ssn) d h = absurd (let k : None ≡ Some d = h in cc)
 det_delivers past (Deliver to send rsn listed) d h = (to.0, refl, refl)
-det_delivers past (Stable det) d h = absurd (let k : None ≡ Some d = h in cc)
-det_delivers past (Crash who) d h = absurd (let k : None ≡ Some d = h in cc)
-det_delivers past (Restart who listed) d h = absurd (let k : None ≡ Some d = h in cc)
-det_delivers past (Forget who listed) d h = absurd (let k : None ≡ Some d = h in cc)
+det_delivers past e d h = absurd (let k : None ≡ Some d = h in cc)
 
 pub delivery_event : (past : List Entry) (k : ℕ) (d : Det) → det_at past k ≡ Some d → (p : ℕ) × (l : ℕ) × IsEventOf past k p l
 delivery_event [] k d h = absurd (let e : None ≡ Some d = h in cc)

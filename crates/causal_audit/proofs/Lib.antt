@@ -1,6 +1,5 @@
 pub mod Lemmas
 mod AmongLemmas
-mod Begins
 mod Common
 mod Commas
 mod Between
@@ -10,6 +9,7 @@ mod Swept
 mod Legal
 mod DeliveryNumbers
 mod NoOrphanSoFar
+mod Rules
 mod ShareLemmas
 mod Shown
 mod Steps

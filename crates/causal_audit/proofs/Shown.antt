@@ -11,12 +11,6 @@ use Rattle.causal_trace.proofs.Lemmas.RunProcesses.{down_inside}
 pub parts : (a b : Bool) → (a && not b) ≡ true → (a ≡ true) × (b ≡ false)
 parts a b h = grind (arith, nat_tests)
 
-and_true : (a b : Bool) → b ≡ true → a ≡ (a && b)
-and_true a b h = grind (arith, nat_tests)
-
-not_and_true : (a b : Bool) → b ≡ true → not a ≡ not (a && b)
-not_and_true a b h = ap not (and_true a b h)
-
 module _ (s : FinSet nat_cmp) (test : ℕ → Bool) (shown : HasExactly s test) (p : ℕ) where
   -- a set that has exactly the numbers of a test still does if p is inserted into both, or removed from both
   pub shows_with : HasExactly (insert s p) (λ q. (p == q) || test q)
@@ -28,10 +22,10 @@ module _ (s : FinSet nat_cmp) (test : ℕ → Bool) (shown : HasExactly s test) 
   module _ (more : Bool) where
     -- a list with the determinant, and a list without it
     pub shows_listed : more ≡ true → HasExactly (insert s p) (λ q. ((p == q) && more) || test q)
-    shows_listed is q = shows_with q ∙ ap (λ b. b || test q) (and_true (p == q) more is)
+    shows_listed is q = grind (arith, shows_with q, nat_tests)
 
     pub shows_forgotten : more ≡ true → HasExactly (remove s p) (λ q. not ((p == q) && more) && test q)
-    shows_forgotten is q = shows_without q ∙ ap (λ b. b && test q) (not_and_true (p == q) more is)
+    shows_forgotten is q = grind (arith, shows_without q, nat_tests)
 
 -- if no number passes a test, the empty set has exactly its numbers
 pub shows_none : (test : ℕ → Bool) → ((p : ℕ) → test p ≡ false) → HasExactly empty test

@@ -1,5 +1,5 @@
 -- From one instant of a recorded run to the next, by the entry between them.
-use Rattle.causal_audit.proofs.Common.{◌⊎◌, ℕ, ◌≡◌, ◌<◌, ◌≤◌, inl, inr, List, None, ◌∷◌, length, get_or, reverse, take, Some, sym, ap, ◌∙◌, arith, nat_cmp, FinSet, empty, len, cases_lt, cond-false, cond-true, entry_beyond, refl, take_all, count_below, Entry, instant, entry_at, is_down, Recording, IsWellFormed, past_at, entries_of, count_below-none, accepted_then}
+use Rattle.causal_audit.proofs.Common.{◌⊎◌, ℕ, ◌≡◌, ◌<◌, ◌≤◌, List, ◌∷◌, length, get_or, reverse, take, Some, ap, ◌∙◌, arith, nat_cmp, FinSet, empty, len, cond-false, cond-true, entry_beyond, refl, take_all, count_below, Entry, instant, entry_at, is_down, Recording, IsWellFormed, past_at, entries_of, count_below-none, accepted_then}
 use Rattle.causal_trace.proofs.Lemmas.AtInstants.{found_then, state_at, next_state, no_entry}
 use Rattle.causal_audit.specs.Inside.DeliveryStates.{HasExactly}
 use Rattle.causal_audit.proofs.Between.{next_entry}
@@ -31,11 +31,7 @@ begins r es read t within = ap reverse (take_all (length (take t es)) (take t es
 
 -- the position of an entry is below the length
 pub entry_within : (past : List Entry) (v : ℕ) (e : Entry) → entry_at past v ≡ Some e → v < length past
-entry_within past v e at =
-    elim (cases_lt v (length past)) [
-      | inl below ↦ below
-      | inr beyond ↦ absurd (let x : None ≡ Some e = sym (entry_beyond past v beyond) ∙ at in cc)
-    ]
+entry_within past v e at = grind (arith, entry_beyond)
 
 -- an entry of a longer past is the newest or an older one
 pub entry_cases : (e : Entry) (past : List Entry) (v : ℕ) (x : Entry) → entry_at (e ∷ past) v ≡ Some x → (entry_at past v ≡ Some x) ⊎ ((v ≡ length past) × (e ≡ x))

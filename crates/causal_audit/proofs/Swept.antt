@@ -1,9 +1,9 @@
 -- The deliveries that one more entry may newly orphan.
-use Rattle.causal_audit.proofs.Common.{ℕ, zero, suc, ◌≡◌, ◌<◌, inl, inr, true, false, List, [], ◌∷◌, length, Some, None, refl, sym, subst, ◌∙◌, arith, ◌≤◌, Bool, ◌⊎◌, ◌&&◌, ◌||◌, ◌==◌, not, false≢true, cases_Bool, cases_lt, eqb-true, eq-eqb, or_parts, false_from_ne_true, cond-true, cond-false, ne_eqb, eqb_tells, nat_tests, Pid, Det, Entry, Send, Deliver, Stable, Crash, Restart, Forget, is_down, lane, is_stable, logs, list_has, det_at, det_of, AreLegalEntries, actor, is_delivery_of, IsEventOf, in_order, by_message, Reaches, itself, onward, Depends, event_below, reaches_old, reaches_newest, ReachesNewest, is_newest, in_lane, through_message, reaches_begins, accepted_forward, count_below, count_below-within, HasOrphan}
+use Rattle.causal_audit.proofs.Common.{ℕ, zero, suc, ◌≡◌, ◌<◌, inl, inr, true, false, List, [], ◌∷◌, length, Some, None, refl, sym, subst, ◌∙◌, arith, ◌≤◌, Bool, ◌⊎◌, ◌&&◌, ◌||◌, ◌==◌, not, false≢true, cases_lt, eqb-true, eq-eqb, or_parts, false_from_ne_true, cond-true, cond-false, ne_eqb, nat_tests, Pid, Det, Entry, Send, Deliver, Stable, Crash, Restart, Forget, is_down, lane, is_stable, logs, list_has, det_at, det_of, AreLegalEntries, actor, is_delivery_of, IsEventOf, in_order, by_message, Reaches, itself, onward, Depends, event_below, reaches_old, reaches_newest, ReachesNewest, is_newest, in_lane, through_message, reaches_begins, accepted_forward, count_below, count_below-within, HasOrphan}
 use Rattle.causal_audit.proofs.Between.{reaches_more, IsNoTurn, depends_before}
 use Rattle.causal_audit.specs.Laws.{down_or_holding}
 use Rattle.causal_audit.specs.NoRelease.{may_release}
-use Rattle.causal_audit.specs.NewOrphans.{MayGetOrphan, NewOrphansLaw, OneNewOrphan}
+use Rattle.causal_audit.specs.NewOrphans.{NewOrphansLaw, OneNewOrphan}
 use Rattle.causal_audit.proofs.Lemmas.OrphansByCounts.{exposed, unexposed, orphan_without}
 use Rattle.causal_audit.proofs.safety_scan.CoverStays.{stable_more, gone_more}
 use Rattle.causal_audit.proofs.Legal.{sends_up}
@@ -12,21 +12,24 @@ use Rattle.causal_trace.proofs.Lemmas.DependenceSteps.{delivers_below}
 -- ==== whether an event reaches another, and whether a process depends on a delivery, is decidable
 
 -- a proposition that holds or does not
-abbrev Known : Type 0 → Type 0
+abbrev pub Known : Type 0 → Type 0
 Known P = P ⊎ (P → ⊥)
 
-both_known : {A B : Type 0} → Known A → Known B → Known (A × B)
-both_known (inl a) (inl b) = inl (a, b)
-both_known (inl a) (inr none) = inr (λ h. none h.1)
-both_known (inr none) b = inr (λ h. none h.0)
+pub both_known : {A B : Type 0} → Known A → Known B → Known (A × B)
+both_known a b = grind arith
 
 either_known : {A B : Type 0} → Known A → Known B → Known (A ⊎ B)
-either_known (inl a) b = inl (inl a)
-either_known (inr none) (inl b) = inl (inr b)
-either_known (inr none) (inr neither) = inr (λ h. elim h [ inl a ↦ none a | inr b ↦ neither b ])
+either_known a b = grind arith
+
+-- equivalent propositions are decided alike
+known_as : {A B : Type 0} → Known A → (A → B) → (B → A) → Known B
+known_as k to from = elim k [ inl a ↦ inl (to a) | inr none ↦ inr (λ b. none (from b)) ]
+
+pub known_bool : (a b : Bool) → Known (a ≡ b)
+known_bool a b = grind (arith, nat_tests)
 
 same_known : (m n : ℕ) → Known (m ≡ n)
-same_known m n = elim (eqb_tells m n) [ inl h ↦ inl h.1 | inr h ↦ inr h.1 ]
+same_known m n = grind arith
 
 -- whether an entry is an event of p in this lane
 event_known : (past : List Entry) (i p l : ℕ) → Known (IsEventOf past i p l)
@@ -35,15 +38,12 @@ event_known (e ∷ past) i p l = grind (arith, event_known past i p l)
 
 -- an entry that is not an event is not reached
 no_event_reached : (e : Entry) (past : List Entry) (k i : ℕ) → actor e ≡ None → ((j : ℕ) → is_delivery_of j e ≡ false) → i ≡ length past → Reaches (e ∷ past) k i → ⊥
-no_event_reached e past k i none quiet is (itself q l (inl at)) = omega (arith, event_below past k q l at, is)
-no_event_reached e past k i none quiet is (itself q l (inr at)) = let x : None ≡ Some q = sym none ∙ at.1 in cc
-no_event_reached e past k i none quiet is (onward {j} r (in_order q l h a (inl b))) = omega (arith, event_below past i q l b, is)
-no_event_reached e past k i none quiet is (onward {j} r (in_order q l h a (inr b))) = let x : None ≡ Some q = sym none ∙ b.1 in cc
-no_event_reached e past k i none quiet is (onward {j} r (by_message (inl h))) = omega (arith, delivers_below past i j h, is)
-no_event_reached e past k i none quiet is (onward {j} r (by_message (inr h))) = false≢true (sym (quiet j) ∙ h.1)
+no_event_reached e past k i none quiet is (itself q l at) = grind (arith, event_below)
+no_event_reached e past k i none quiet is (onward {j} r (in_order q l h a b)) = grind (arith, event_below)
+no_event_reached e past k i none quiet is (onward {j} r (by_message h)) = grind (arith, delivers_below)
 
 -- if a property is decidable for each number below a bound, it is decidable whether some number has it
-some_below : (P : ℕ → Type 0) (n : ℕ) → ((j : ℕ) → j < n → Known (P j)) → Known ((j : ℕ) × (j < n) × P j)
+pub some_below : (P : ℕ → Type 0) (n : ℕ) → ((j : ℕ) → j < n → Known (P j)) → Known ((j : ℕ) × (j < n) × P j)
 some_below P zero known = inr (λ some. absurd (omega (arith, some.1)))
 some_below P (suc n) known = elim (either_known (known n (omega arith)) (some_below P n (λ j below. known j (omega (arith, below))))) [
   | inl (inl here) ↦ inl (n, omega arith, here)
@@ -80,35 +80,23 @@ module _ (n : ℕ) (past : List Entry) (k : ℕ) (before : (j : ℕ) → j < len
   newest_known (Deliver to send rsn listed) i formed is =
       let e = Deliver to send rsn listed in
       let early : send < length past = accepted_forward n (e ∷ past) formed (length past) send (inr (refl, eq-eqb send send refl)) in
-      event_reached e i to.0 formed is refl (elim (before send early) [
-        | inl r ↦ inl (send, eq-eqb send send refl, r)
-        | inr none ↦ inr (λ by. none (subst (Reaches past k) (sym (eqb-true send by.0 by.1)) by.2))
-      ])
-  newest_known (Stable det) i formed is = inr (no_event_reached (Stable det) past k i refl (λ j. refl) is)
-  newest_known (Crash who) i formed is = inr (no_event_reached (Crash who) past k i refl (λ j. refl) is)
-  newest_known (Restart who listed) i formed is = inr (no_event_reached (Restart who listed) past k i refl (λ j. refl) is)
-  newest_known (Forget who listed) i formed is = inr (no_event_reached (Forget who listed) past k i refl (λ j. refl) is)
+      event_reached e i to.0 formed is refl (known_as (before send early) (λ r. (send, eq-eqb send send refl, r)) (λ by. subst (Reaches past k) (sym (eqb-true send by.0 by.1)) by.2))
+  newest_known e i formed is = inr (no_event_reached e past k i refl (λ j. refl) is)
 
 -- whether an event reaches another
 pub reach_known : (n : ℕ) (past : List Entry) (k i : ℕ) → AreLegalEntries n past → i < length past → Known (Reaches past k i)
 reach_known n [] k i formed below = absurd (omega (arith, below))
 reach_known n (e ∷ past) k i formed below = elim (cases_lt i (length past)) [
-  | inl early ↦ elim (reach_known n past k i formed.0 early) [
-    | inl r ↦ inl (reaches_more e past k i r)
-    | inr none ↦ inr (λ r. none (reaches_old e past k (accepted_forward n (e ∷ past) formed) i early r))
-  ]
+  | inl early ↦ known_as (reach_known n past k i formed.0 early) (reaches_more e past k i) (reaches_old e past k (accepted_forward n (e ∷ past) formed) i early)
   | inr late ↦ newest_known n past k (λ j h. reach_known n past k j formed.0 h) e i formed (omega (arith, late, below))
 ]
 
 -- whether a process depends on a delivery
 pub depends_known : (n : ℕ) (past : List Entry) (k p : ℕ) → AreLegalEntries n past → Known (Depends past k p)
-depends_known n past k p formed = elim (cases_Bool (is_down past p)) [
-  | inl down ↦ inr (λ d. false≢true (sym d.up ∙ down))
-  | inr up ↦ elim (mate_known n past k (λ j h. reach_known n past k j formed h) p) [
-    | inl mate ↦ inl (record { up = up; event = mate.0; present = mate.2.0; reached = mate.2.1 })
-    | inr none ↦ inr (λ d. none (d.event, event_below past d.event p (lane past p) d.present, (d.present, d.reached)))
-  ]
-]
+depends_known n past k p formed =
+    known_as (both_known (known_bool (is_down past p) false) (mate_known n past k (λ j h. reach_known n past k j formed h) p))
+    (λ h. record { up = h.0; event = h.1.0; present = h.1.2.0; reached = h.1.2.1 })
+    (λ d. (d.up, (d.event, event_below past d.event p (lane past p) d.present, (d.present, d.reached))))
 
 -- ==== the deliveries that one more entry may newly orphan
 
@@ -139,17 +127,6 @@ pub sent_before : (n : ℕ) (past : List Entry) (k : ℕ) (d : Det) (from to : P
 sent_before n past k d from to ssn p formed at who (is_newest is) = absurd (let e : None ≡ Some d = det_newest n 0 (Send from to ssn) past k d (at is) is in cc)
 sent_before n past k d from to ssn p formed at who (through_message j is reach) = absurd (false≢true is)
 sent_before n past k d from to ssn p formed at who (in_lane j event reach) = grind (arith, sends_up n past from to ssn formed.1)
-
-pub sent : (n f : ℕ) (past : List Entry) (k : ℕ) (d : Det) (from to : Pid) (ssn : ℕ) → AreLegalEntries n (Send from to ssn ∷ past) → det_at (Send from to ssn ∷ past) k ≡ Some d
-    → HasOrphan n f (Send from to ssn ∷ past) k → HasOrphan n f past k
-sent n f past k d from to ssn formed at list_has =
-    let e = Send from to ssn in
-    let x = exposed n f (e ∷ past) k d at list_has in
-    let was : Depends past k x.orphan = elim (depends_before n e past k x.orphan formed (refl, refl) x.depends) [
-      | inl old ↦ old
-      | inr new ↦ sent_before n past k d from to ssn x.orphan formed (λ _. at) new.0 (reaches_newest e past k x.orphan (length past) (accepted_forward n (e ∷ past) formed) refl new.0 new.1)
-    ] in
-    orphan_before n f e past k d at x.orphan x.process was x.unstable x.few x.without
 
 -- ---- an entry without an acting process
 
@@ -197,29 +174,23 @@ delivered n f past k d to send rsn listed formed at p low depends unstable few w
     let e = Deliver to send rsn listed in
     let fewer = gone_fewer n f e past d refl few in
     let lacked = (or_parts (to.0 == p && list_has listed d) (logs past p d) without).1 in
-    elim (depends_before n e past k p formed (refl, refl) depends) [
-      | inl old ↦ inl (orphan_before n f e past k d at p low old unstable fewer lacked)
-      | inr new ↦
-          let same : p ≡ to.0 = let x : Some to.0 ≡ Some p = new.0 in cc in
-          inr (same, new.1, λ was. orphan_before n f e past k d at p low (subst (Depends past k) (sym same) was) unstable fewer lacked)
-    ]
-
-receives : (n f : ℕ) (past : List Entry) (k : ℕ) (d : Det) (to : Pid) (send rsn : ℕ) (listed : List Det) → AreLegalEntries n (Deliver to send rsn listed ∷ past) → det_at (Deliver to send rsn listed ∷ past) k ≡ Some d
-    → HasOrphan n f (Deliver to send rsn listed ∷ past) k
-    → HasOrphan n f past k ⊎ MayGetOrphan past (Deliver to send rsn listed) k d
-receives n f past k d to send rsn listed formed at orphaned =
-    let x = exposed n f (Deliver to send rsn listed ∷ past) k d at orphaned in
-    elim (delivered n f past k d to send rsn listed formed at x.orphan x.process x.depends x.unstable x.few x.without) [
-      | inl old ↦ inl old
-      | inr new ↦ elim (depends_known n past k to.0 formed.0) [ inl was ↦ inl (new.2 was) | inr never ↦ inr (subst (Depends (Deliver to send rsn listed ∷ past) k) new.0 x.depends, never) ]
-    ]
+    grind (arith, depends_before n e past k p formed (refl, refl) depends, orphan_before n f e past k d at p low, unstable, fewer, lacked)
 
 -- ---- the laws
 
 -- after one more entry a delivery has an orphan only if it had one before, or the entry may newly orphan it
 pub sweep_law : NewOrphansLaw
-sweep_law n f (Send from to ssn) past k d formed at orphaned = inl (sent n f past k d from to ssn formed at orphaned)
-sweep_law n f (Deliver to send rsn listed) past k d formed at orphaned = receives n f past k d to send rsn listed formed at orphaned
+sweep_law n f (Send from to ssn) past k d formed at orphaned =
+    let e = Send from to ssn in
+    let x = exposed n f (e ∷ past) k d at orphaned in
+    let was : Depends past k x.orphan = elim (depends_before n e past k x.orphan formed (refl, refl) x.depends) [
+      | inl old ↦ old
+      | inr new ↦ sent_before n past k d from to ssn x.orphan formed (λ _. at) new.0 (reaches_newest e past k x.orphan (length past) (accepted_forward n (e ∷ past) formed) refl new.0 new.1)
+    ] in
+    inl (orphan_before n f e past k d at x.orphan x.process was x.unstable x.few x.without)
+sweep_law n f (Deliver to send rsn listed) past k d formed at orphaned =
+    let x = exposed n f (Deliver to send rsn listed ∷ past) k d at orphaned in
+    grind (arith, x.depends, depends_known n past k to.0 formed.0, delivered n f past k d to send rsn listed formed at x.orphan x.process x.depends x.unstable x.few x.without)
 sweep_law n f (Stable det) past k d formed at orphaned = inl (stored n f past k d det formed at orphaned)
 sweep_law n f (Crash who) past k d formed at orphaned = inl (crashed n f past k d who formed at orphaned)
 sweep_law n f (Restart who listed) past k d formed at orphaned = grind (arith, restarted)
@@ -231,7 +202,4 @@ one_new_orphan n f past k d to send rsn listed p formed at orphaned never orphan
     let e = Deliver to send rsn listed in
     let x = exposed n f (e ∷ past) k d at orphaned in
     let o = orphan_without n f (e ∷ past) k d at (down_or_holding (e ∷ past) d) p orphan in
-    elim (delivered n f past k d to send rsn listed formed at p orphan.process orphan.depends x.unstable x.few o.1) [
-      | inl old ↦ absurd (never old)
-      | inr new ↦ new.0
-    ]
+    grind (arith, never, delivered n f past k d to send rsn listed formed at p orphan.process orphan.depends x.unstable x.few o.1)

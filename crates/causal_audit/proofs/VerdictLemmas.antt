@@ -19,21 +19,16 @@ module _ (r : Recording) (f : ℕ) where
   FewBefore t = (u : ℕ) → u < t → u ≤ length r.past → count_below r.processes (is_down (instant r.past u)) ≤ f
 
   number_of : (t k : ℕ) → t ≤ length r.past → HasOrphan r.processes f (instant r.past t) k → (i : ℕ) × (i < deliveries_in r.past) × IsNumbered r.past i k
-  number_of t k within has =
-      let then : (i : ℕ) × (i < deliveries_in (instant r.past t)) × IsNumbered (instant r.past t) i k = has_number (instant r.past t) k has.is_orphan.det has.is_orphan.delivered in
-      let now : IsNumbered r.past then.0 k = numbered_later r.past t then.0 k within then.2 in
-      (then.0, numbered_below r.past then.0 k now, now)
-
-  no_orphan_ever : EarliestBreach r f 0 (deliveries_in r.past) None → (t : ℕ) → NoOrphanBefore t
-  no_orphan_ever none t u early within k has =
-      let n = number_of u k within has in
-      none n.0 k u (omega arith) n.1 n.2 within has
+  number_of t k within has = grind (arith, has_number (instant r.past t) k has.is_orphan.det has.is_orphan.delivered, numbered_later, numbered_below)
 
   -- if no delivery has an orphan by an instant, none has one before the next
   pub no_orphan_by : (end : ℕ) → EarliestBreachBy r f end 0 (deliveries_in r.past) None → (t : ℕ) → t ≤ end + 1 → NoOrphanBefore t
   no_orphan_by end none t low u early within k has =
       let n = number_of u k within has in
       none n.0 k u (omega arith) n.1 n.2 (omega (arith, early, low)) has
+
+  no_orphan_ever : EarliestBreach r f 0 (deliveries_in r.past) None → (t : ℕ) → NoOrphanBefore t
+  no_orphan_ever none t u early within = no_orphan_by (length r.past) none (u + 1) (omega (arith, within)) u (omega arith) within
 
   -- nor before the instant of the earliest breach
   pub no_orphan_before : (b : Breach) → IsEarliestBreach r f 0 (deliveries_in r.past) b → (t : ℕ) → t ≤ b.instant → NoOrphanBefore t

@@ -28,6 +28,7 @@ const FIRST_LISTED: usize = 16_384;
 ///
 /// # Errors
 /// `NoMemory` if allocation fails.
+#[tactic(auto, using(crate::proofs::Rules::of_results))]
 pub fn earliest_breach(
     alloc: Global,
     trace: &Trace,
@@ -94,6 +95,7 @@ pub fn index_early(
 ///
 /// # Errors
 /// `NoMemory` if allocation fails.
+#[tactic(auto, using(crate::proofs::Rules::of_results))]
 fn breach_of_indexed(
     alloc: Global,
     trace: &Trace,

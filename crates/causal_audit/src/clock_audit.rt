@@ -36,6 +36,7 @@ fn first_breach_at(tables: &Tables, f: u16, end: u32, k: u32) -> Option<Breach>
 /// Returns the first breach of delivery number i, which must be below the number of deliveries; `None` if it never has
 /// an orphan. At each instant the number of processes that are down or hold the determinant is compared with f. No
 /// crash set is enumerated.
+#[tactic(auto, using(crate::proofs::DeliveryNumbers::numbered_one))]
 pub fn first_breach(tables: &Tables, f: u16, i: u32) -> Option<Breach>
     requires { i < deliveries_in tables.now.past }
     ensures { (k : ℕ) → IsNumbered tables.now.past i k → FirstBreach tables.now f k result }
@@ -45,6 +46,7 @@ pub fn first_breach(tables: &Tables, f: u16, i: u32) -> Option<Breach>
 
 /// Returns the earliest breach of all deliveries, by instant and then by position, if it comes by the instant `end`;
 /// `None` otherwise.
+#[tactic(auto, using(crate::proofs::AmongLemmas::below_more, crate::proofs::AmongLemmas::below_all))]
 fn earliest_breach_by_clock(tables: &Tables, f: u16, end: u32) -> Option<Breach>
     requires { end ≤ length tables.now.past }
     ensures { EarliestBreachBy tables.now f end 0 (deliveries_in tables.now.past) result }
@@ -81,6 +83,7 @@ fn orphan_verdict(breach: Breach) -> Verdict
 
 /// Returns the verdict, given the first excess, and the earliest breach of all deliveries up to the last instant that
 /// can decide.
+#[tactic(auto, using(crate::proofs::VerdictLemmas::orphaned, crate::proofs::VerdictLemmas::few_ever, crate::proofs::VerdictLemmas::few_before))]
 pub fn decide_verdict(excess: Option<Excess>, breach: Option<Breach>) -> Verdict
     ensures { IsDecidedVerdict excess breach result }
 {

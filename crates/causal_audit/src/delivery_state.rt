@@ -43,6 +43,7 @@ pub fn without_member(mut members: Holders, p: u8) -> Holders
 }
 
 /// Returns the processes that are down after one more entry.
+#[tactic(auto, using(crate::proofs::Shown::shows_with, crate::proofs::Shown::shows_without))]
 pub fn down_after(down: Holders, entry: &Entry) -> Holders
     ensures { ShowsDownAfter entry.now down result }
 {
@@ -68,6 +69,7 @@ pub fn stable_after(stable: bool, entry: &Entry, mentioned: bool) -> bool
 
 /// Returns the processes that depend on the delivery after one more entry. `reached`: the delivery reaches the entry.
 /// An event that is reached adds its process; a crash or restart removes its process.
+#[tactic(auto, using(crate::proofs::Between::sent_unreached, crate::proofs::Between::delivered_unreached))]
 fn dependents_after(dependents: Holders, entry: &Entry, reached: bool) -> Holders
     ensures { ShowsDependentsAfter entry.now reached dependents result }
 {

@@ -9,6 +9,7 @@ use causal_holders::Holders;
 use causal_trace::entry::Entry;
 
 /// Returns the holders of a determinant after an entry that mentions it.
+#[tactic(auto, using(crate::proofs::Shown::shows_listed, crate::proofs::Shown::shows_forgotten))]
 #[inline(always)]
 fn holders_mentioned(holders: Holders, entry: &Entry) -> Holders
     ensures { (d : Det) →
@@ -24,6 +25,7 @@ fn holders_mentioned(holders: Holders, entry: &Entry) -> Holders
 }
 
 /// Returns the holders of a determinant after an entry that does not mention it.
+#[tactic(auto, using(crate::proofs::Shown::shows_without))]
 #[inline(always)]
 fn holders_unmentioned(holders: Holders, entry: &Entry) -> Holders
     ensures { (d : Det) →

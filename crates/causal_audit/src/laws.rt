@@ -18,6 +18,7 @@ pub fn safe_iff_held()
 /// and some dependent does not hold it. These processes are then the smallest crash set that gives an orphan, and its
 /// orphans are the dependents that do not hold the determinant. (Orphans are those of Elnozahy, Alvisi, Wang and
 /// Johnson 2002; the bound f is this project's.)
+#[tactic(auto, using(crate::proofs::Lemmas::OrphansByCounts::contained, crate::proofs::Lemmas::OrphansByCounts::gone_is))]
 pub fn orphans_by_counting()
     ensures counted { OrphansByCounting }
     ensures contained { CrashSetsContain }
@@ -61,6 +62,7 @@ pub fn instants_agree()
 /// States which deliveries one more entry may newly orphan. A delivery entry: those on which its receiver newly
 /// depends, and the receiver is then their only orphan. A restart: those whose determinants it does not list. A
 /// forgetting: those whose determinants it lists.
+#[tactic(auto, using(crate::proofs::Swept::sweep_law, crate::proofs::Swept::one_new_orphan))]
 pub fn new_orphans_law()
     ensures newly { NewOrphansLaw }
     ensures receiver { OneNewOrphan }

@@ -69,6 +69,7 @@ fn orphan_line(
 }
 
 /// Returns the processes of a set, ascending and joined by commas; `-` for the empty set.
+#[tactic(auto, using(crate::proofs::Rules::of_results), unfolding(crate::specs::VerdictLines::set_text))]
 fn set_text(alloc: Global, processes: Holders) -> Result<String, AllocError>
     ensures { IfOk result (λ text. string_bytes text ≡ lines.set_text processes) }
 {
@@ -77,6 +78,7 @@ fn set_text(alloc: Global, processes: Holders) -> Result<String, AllocError>
 }
 
 /// Returns numbers joined by commas; `-` if there is none.
+#[tactic(auto, using(crate::proofs::Rules::of_texts))]
 fn join_numbers(alloc: Global, numbers: &[String]) -> Result<String, AllocError>
     ensures { IfOk result
         (λ line. JoinsNumbers (map string_bytes numbers.now) (string_bytes line)) }

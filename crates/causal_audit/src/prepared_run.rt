@@ -137,6 +137,7 @@ impl PreparedRun {
     ///
     /// # Errors
     /// `NoMemory` if allocation fails.
+    #[tactic(auto, using(crate::proofs::Lemmas::Parts::whole))]
     pub(crate) fn earliest_breach(
         &self,
         alloc: Global,
@@ -167,6 +168,7 @@ fn walk_length(candidates: &[OpenDelivery], walk: usize) -> u32
 }
 
 /// Estimates the number of entries of all walks that follow these deliveries.
+#[tactic(auto, using(crate::proofs::ShareLemmas::walked_more))]
 fn total_walk_length(candidates: &[OpenDelivery]) -> u128
     ensures { result ≡ walked (open_lengths_of candidates.now) (walk_count (length candidates.now)) }
 {
@@ -179,6 +181,7 @@ fn total_walk_length(candidates: &[OpenDelivery]) -> u128
 
 /// Returns the number of deliveries in the first groups whose walks cover at least `fair` entries; at least one group,
 /// if there is one.
+#[tactic(auto, using(crate::proofs::ShareLemmas::walked_more))]
 fn deliveries_of_share(candidates: &[OpenDelivery], fair: u128) -> usize
     requires { fair ≤ walked (open_lengths_of candidates.now) (walk_count (length candidates.now)) }
     ensures within { result ≤ length candidates.now }

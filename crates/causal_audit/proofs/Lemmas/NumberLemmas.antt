@@ -1,25 +1,15 @@
 -- Deliveries are counted, and each has a number.
-use Rattle.causal_audit.proofs.Common.{ℕ, ◌≡◌, ◌+◌, ◌<◌, ◌≤◌, inl, inr, true, List, [], ◌∷◌, length, Some, None, refl, sym, ◌∙◌, arith, ◌==◌, false≢true, cond-true, cond-false, eqb_tells, Det, Entry, Send, Deliver, Stable, Crash, Restart, Forget, det_at, det_of, deliveries_in}
+use Rattle.causal_audit.proofs.Common.{ℕ, ◌≡◌, ◌+◌, ◌<◌, ◌≤◌, inl, inr, true, List, [], ◌∷◌, length, Some, None, refl, sym, ◌∙◌, arith, ◌==◌, cond-true, cond-false, eqb_tells, Det, Entry, det_at, det_of, deliveries_in}
 use Rattle.causal_audit.specs.Numbers.{is_delivery, IsNumbered}
 use Rattle.causal_audit.proofs.Legal.{det_delivers}
 
 -- a delivery entry increases the count by one
 pub one_more : (e : Entry) (past : List Entry) → is_delivery e ≡ true → deliveries_in (e ∷ past) ≡ deliveries_in past + 1
-one_more (Send from to ssn) past h = absurd (false≢true h)
-one_more (Deliver to send rsn listed) past h = refl
-one_more (Stable det) past h = absurd (false≢true h)
-one_more (Crash who) past h = absurd (false≢true h)
-one_more (Restart who listed) past h = absurd (false≢true h)
-one_more (Forget who listed) past h = absurd (false≢true h)
+one_more e past h = grind arith
 
 -- no entry decreases the count
 pub no_fewer : (e : Entry) (past : List Entry) → deliveries_in past ≤ deliveries_in (e ∷ past)
-no_fewer (Send from to ssn) past = omega arith
-no_fewer (Deliver to send rsn listed) past = omega arith
-no_fewer (Stable det) past = omega arith
-no_fewer (Crash who) past = omega arith
-no_fewer (Restart who listed) past = omega arith
-no_fewer (Forget who listed) past = omega arith
+no_fewer e past = grind arith
 
 -- a delivery with a determinant has a number
 pub has_number : (past : List Entry) (k : ℕ) (d : Det) → det_at past k ≡ Some d → (i : ℕ) × (i < deliveries_in past) × IsNumbered past i k

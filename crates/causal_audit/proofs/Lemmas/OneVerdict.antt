@@ -8,7 +8,7 @@ three_ways : (G : Type 0) (a b : ℕ) → (a < b → G) → (b < a → G) → (a
 three_ways G a b below above same = grind arith
 
 one_instant : (r : Recording) (f t u : ℕ) → IsFirstUnsafe r f t → IsFirstUnsafe r f u → t ≡ u
-one_instant r f t u a b = three_ways (t ≡ u) t u (λ h. absurd (a.unsafe (b.before t h))) (λ h. absurd (b.unsafe (a.before u h))) (λ h. h)
+one_instant r f t u a b = grind arith
 
 same_bool : (a b : Bool) → (a ≡ true → b ≡ true) → (b ≡ true → a ≡ true) → a ≡ b
 same_bool a b h k = grind (arith, nat_tests)

@@ -14,12 +14,9 @@ whole followed same = grind (arith, common_steps, ap (λ n. take n followed.open
 pub least_of_both : (followed : FollowedDeliveries) (from mid to : ℕ) (one other : Option Breach) → from ≤ mid → mid ≤ to
     → EarliestOf (part_of followed from mid) one → EarliestOf (part_of followed mid to) other → EarliestOf (part_of followed from to) (earlier_breach one other)
 least_of_both followed from mid to one other low high first second = let xs = followed.positions in
-    let n = mid - from in
-    let m = to - mid in
-    let r = followed.run in
-    let count : n + m ≡ to - from = omega (arith, low, high) in
-    let place : from + n ≡ mid = omega (arith, low) in
-    let rest : take m (drop n (drop from xs)) ≡ take m (drop mid xs) = ap (take m) (drop-drop n from xs ∙ ap (λ i. drop i xs) place) in
-    let both : take n (drop from xs) ++ take m (drop mid xs) ≡ take (to - from) (drop from xs) = grind (arith, take-add) in
-    subst (λ list. EarliestAmongBy r followed.f followed.end list (earlier_breach one other)) both
-    (among_both r followed.f followed.end (take n (drop from xs)) (take m (drop mid xs)) one other first second)
+    let count : (mid - from) + (to - mid) ≡ to - from = omega (arith, low, high) in
+    let place : from + (mid - from) ≡ mid = omega (arith, low) in
+    let rest : take (to - mid) (drop (mid - from) (drop from xs)) ≡ take (to - mid) (drop mid xs) = ap (take (to - mid)) (drop-drop (mid - from) from xs ∙ ap (λ i. drop i xs) place) in
+    let both : take (mid - from) (drop from xs) ++ take (to - mid) (drop mid xs) ≡ take (to - from) (drop from xs) = grind (arith, take-add) in
+    subst (λ list. EarliestAmongBy followed.run followed.f followed.end list (earlier_breach one other)) both
+    (among_both followed.run followed.f followed.end (take (mid - from) (drop from xs)) (take (to - mid) (drop mid xs)) one other first second)

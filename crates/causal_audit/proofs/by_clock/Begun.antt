@@ -1,5 +1,5 @@
 -- The state of a delivery before its first mention.
-use Rattle.causal_audit.proofs.Common.{ℕ, zero, suc, ◌≡◌, ◌+◌, ◌-◌, ◌<◌, ◌≤◌, Bool, false, List, ◌∷◌, length, Some, refl, sym, ap, subst, ◌∙◌, arith, and_right, nat_tests, ◌||◌, ◌&&◌, ◌==◌, not, Det, Entry, Send, Deliver, Stable, Crash, Restart, Forget, instant, entry_at, is_down, is_stable, logs, list_has, reaches_begins, instant_length}
+use Rattle.causal_audit.proofs.Common.{ℕ, zero, suc, ◌≡◌, ◌+◌, ◌-◌, ◌<◌, ◌≤◌, false, List, ◌∷◌, length, Some, refl, sym, ap, subst, ◌∙◌, arith, nat_tests, Det, Entry, Send, instant, entry_at, is_down, is_stable, logs, list_has, reaches_begins, instant_length}
 use Rattle.causal_trace.specs.Past.{mentioned_dets}
 use Rattle.causal_audit.specs.Quiet.{is_transition}
 use Rattle.causal_audit.specs.Inside.DeliveryStates.{IsUnknownToAll}
@@ -35,16 +35,9 @@ down_stays past s t up within quiet p =
 
 -- ---- before the first mention
 
-or_none : (w l b : Bool) → l ≡ false → b ≡ false → ((w && l) || b) ≡ false
-or_none w l b h k = grind (arith, nat_tests)
-
 unlogged_stays : (e : Entry) (past : List Entry) (d : Det) → list_has (mentioned_dets e) d ≡ false → (p : ℕ) → logs past p d ≡ false → logs (e ∷ past) p d ≡ false
 unlogged_stays (Send from to ssn) past d h p none = none
-unlogged_stays (Deliver to send rsn listed) past d h p none = or_none (to.0 == p) (list_has listed d) (logs past p d) h none
-unlogged_stays (Stable det) past d h p none = none
-unlogged_stays (Crash who) past d h p none = and_right (not (who.0 == p)) (logs past p d) none
-unlogged_stays (Restart who listed) past d h p none = or_none (who.0 == p) (list_has listed d) (logs past p d) h none
-unlogged_stays (Forget who listed) past d h p none = and_right (not (who.0 == p && list_has listed d)) (logs past p d) none
+unlogged_stays _ past d h p none = grind (arith, nat_tests)
 
 -- before the delivery and the first mention of its determinant it has no holders and no dependents
 pub unheard_before : (past : List Entry) (k : ℕ) (d : Det) (t : ℕ) → MentionsNone past d 0 t → t ≤ k → t ≤ length past → IsUnknownToAll (instant past t) k d

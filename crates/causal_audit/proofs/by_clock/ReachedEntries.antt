@@ -1,5 +1,5 @@
 -- The entries that a delivery reaches, at each instant and in the whole run, and a walk from change to change.
-use Rattle.causal_audit.proofs.Common.{ℕ, zero, suc, ◌≡◌, ◌-◌, ◌<◌, ◌≤◌, ◌==◌, inl, List, [], ◌∷◌, length, drop, sym, arith, inr, Bool, true, Some, refl, ap, subst, ◌∙◌, ◌+◌, get_or, Option, ◌↔◌, ◌⊎◌, ◌||◌, Contains, or_cases, eqb-true, eq-eqb, nat_tests, Entry, instant, det_at, lane, AreLegalEntries, Recording, IsWellFormed, IsEventOf, Reaches, actor, in_order, by_message, itself, onward, Depends, reaches_old, event_below, reaches_newest, ReachesNewest, is_newest, list_has, in_lane, through_message, accepted_forward, Pid, Det, Send, Deliver, entries_of, accepted_then, det_then, instant_length}
+use Rattle.causal_audit.proofs.Common.{ℕ, ◌≡◌, ◌<◌, ◌≤◌, ◌==◌, inl, List, ◌∷◌, length, sym, arith, inr, Bool, true, Some, refl, ap, subst, ◌∙◌, ◌+◌, get_or, Option, ◌↔◌, ◌||◌, Contains, or_cases, eqb-true, eq-eqb, nat_tests, Entry, instant, det_at, lane, AreLegalEntries, Recording, IsWellFormed, IsEventOf, Reaches, actor, in_order, by_message, itself, onward, Depends, reaches_old, event_below, reaches_newest, ReachesNewest, is_newest, list_has, in_lane, through_message, accepted_forward, Pid, Det, Send, Deliver, entries_of, accepted_then, det_then, instant_length}
 use Rattle.causal_clock.specs.declared.Event.{Event}
 use Rattle.causal_clock.specs.Precedence as clock
 use Rattle.causal_audit.proofs.Between.{reaches_more, known_already, quiet_step}
@@ -16,37 +16,23 @@ use Rattle.causal_audit.specs.Inside.PositionLists.{AreMentionsOf, HasNoEffect, 
 use Rattle.causal_audit.proofs.safety_scan.CoverStays.{mentioned_next}
 use Rattle.causal_audit.proofs.NoOrphanSoFar.{accepted_next}
 use Rattle.causal_audit.proofs.Steps.{entry_read}
-use Rattle.causal_trace.proofs.Lemmas.AtInstants.{next_state}
+use Rattle.causal_trace.proofs.Lemmas.AtInstants.{at_instant, next_state}
 
 -- ==== a run's entries in order, and its instants
 
 -- ---- which events reach which is the same at each instant
 
-reaches_dropped : (n m : ℕ) (past : List Entry) (i j : ℕ) → AreLegalEntries n past → j < length past - m → Reaches past i j → Reaches (drop m past) i j
-reaches_dropped n zero past i j formed below r = r
-reaches_dropped n (suc m) [] i j formed below r = r
-reaches_dropped n (suc m) (e ∷ past) i j formed below r =
-    reaches_dropped n m past i j formed.0 (omega (arith, below)) (reaches_old e past i (accepted_forward n (e ∷ past) formed) j (omega (arith, below)) r)
-
-reaches_kept : (m : ℕ) (past : List Entry) (i j : ℕ) → Reaches (drop m past) i j → Reaches past i j
-reaches_kept zero past i j r = r
-reaches_kept (suc m) [] i j r = r
-reaches_kept (suc m) (e ∷ past) i j r = reaches_more e past i j (reaches_kept m past i j r)
-
 pub reaches_then : (n : ℕ) (past : List Entry) (t i j : ℕ) → AreLegalEntries n past → t ≤ length past → j < t → Reaches past i j → Reaches (instant past t) i j
-reaches_then n past t i j formed within below r = reaches_dropped n (length past - t) past i j formed (omega (arith, within, below)) r
+reaches_then n past t i j formed within below r =
+    (at_instant (λ x. j < length x → AreLegalEntries n x × Reaches x i j)
+    (λ e x was low. let h = was (omega (arith, low)) in (h.0.0, reaches_old e x i (accepted_forward n (e ∷ x) h.0) j low h.1)) past t (λ low. (formed, r)) (omega (arith, below, instant_length past t within))).1
 
 pub reaches_whole : (past : List Entry) (t i j : ℕ) → Reaches (instant past t) i j → Reaches past i j
-reaches_whole past t i j r = reaches_kept (length past - t) past i j r
-
-event_kept : (m : ℕ) (past : List Entry) (i p l : ℕ) → IsEventOf (drop m past) i p l → IsEventOf past i p l
-event_kept zero past i p l at = at
-event_kept (suc m) [] i p l at = at
-event_kept (suc m) (e ∷ past) i p l at = inl (event_kept m past i p l at)
+reaches_whole past t i j = at_instant (λ x. Reaches x i j → Reaches past i j) (λ e x h r. h (reaches_more e x i j r)) past t (λ r. r)
 
 -- an event at an instant is an event of the run
 pub event_whole : (past : List Entry) (t i p l : ℕ) → IsEventOf (instant past t) i p l → IsEventOf past i p l
-event_whole past t i p l at = event_kept (length past - t) past i p l at
+event_whole past t i p l = at_instant (λ x. IsEventOf x i p l → IsEventOf past i p l) (λ e x h at. h (inl at)) past t (λ at. at)
 
 -- ==== the entries that a delivery reaches, entry by entry
 
@@ -89,13 +75,10 @@ module _ (n : ℕ) (past : List Entry) (k : ℕ) (depends : ℕ → Bool) (are :
         ]
       ]
 
-      one_of : (a b c : Bool) → (a ≡ true) ⊎ ((b ≡ true) ⊎ (c ≡ true)) → (a || (b || c)) ≡ true
-      one_of a b c h = grind (arith, nat_tests)
-
       how : ReachesNewest e past k p → (own || (depends to.0 || brings)) ≡ true
-      how (is_newest is) = one_of own (depends to.0) brings (inl (is_own.1 (sym is)))
-      how (in_lane j event reach) = one_of own (depends to.0) brings (inr (inl (ap depends same ∙ (are p).1 (known_already n past e k j p formed.1 of event reach))))
-      how (through_message j is reach) = one_of own (depends to.0) brings (inr (inr (is_brought.1 (subst (Reaches past k) (sym (eqb-true send j is)) reach))))
+      how (is_newest is) = grind (arith, nat_tests, is_own.1 (sym is))
+      how (in_lane j event reach) = grind (arith, nat_tests, (are p).1 (known_already n past e k j p formed.1 of event reach))
+      how (through_message j is reach) = grind (arith, nat_tests, is_brought.1 (subst (Reaches past k) (sym (eqb-true send j is)) reach))
 
 -- ==== one delivery, from change to change
 

@@ -1,5 +1,5 @@
 -- The deliveries of a group that reach the entries of a walk, with one more entry.
-use Rattle.causal_audit.proofs.Common.{ℕ, ◌≡◌, ◌≢◌, ◌+◌, ◌-◌, ◌<◌, ◌≤◌, inl, inr, Bool, true, false, cond, List, ◌∷◌, length, Some, None, entry_at, message_sent, refl, sym, ap, subst, ◌∙◌, arith, ◌↔◌, ◌⊎◌, ◌||◌, ◌&&◌, ◌==◌, not, set, nat_cmp, nat_cmp_total, FinSet, contains, empty, len, len-insert, remove, same_set, nat_cmp-IsAntisymmetric, union, difference, insert, contains-empty, contains-union, contains-difference, false≢true, eqb-true, eq-eqb, ne_eqb, eqb_tells, nat_tests, get_or-set_same, get_or-set_other, Pid, Det, Entry, Send, Deliver, Stable, Crash, Restart, Forget, det_at, is_down, lane, AreLegalEntries, actor, Reaches, Depends, accepted_forward, delivers_sent, delivers_up, event_below, reaches_begins, reaches_old, depends_restarted}
+use Rattle.causal_audit.proofs.Common.{ℕ, ◌≡◌, ◌≢◌, ◌+◌, ◌-◌, ◌<◌, ◌≤◌, inr, true, false, cond, List, ◌∷◌, length, Some, None, entry_at, message_sent, refl, sym, ap, subst, ◌∙◌, arith, ◌↔◌, ◌⊎◌, ◌||◌, ◌&&◌, not, set, nat_cmp, nat_cmp_total, FinSet, contains, empty, len, remove, union, difference, contains-empty, contains-union, contains-difference, false≢true, eq-eqb, ne_eqb, eqb_tells, nat_tests, get_or-set_same, get_or-set_other, Pid, Det, Entry, Send, Deliver, Stable, Crash, Restart, Forget, det_at, is_down, lane, AreLegalEntries, actor, Reaches, Depends, accepted_forward, delivers_sent, delivers_up, event_below, reaches_begins, reaches_old, depends_restarted}
 use Rattle.causal_audit.specs.declared.group.reach.ReachSets.{ReachSets}
 use Rattle.causal_audit.specs.Inside.Group.Walk.{HasRow, AreNewlyReached, RowsShowReach, AreReachingPlaces, row, row_of}
 use Rattle.causal_audit.specs.Inside.DeliveryStates.{IsNextReached}
@@ -9,7 +9,8 @@ use Rattle.causal_audit.proofs.Steps.{entry_cases, entry_within}
 use Rattle.causal_audit.proofs.by_clock.ReachedEntries.{send_tells, delivery_tells}
 use Rattle.causal_audit.proofs.index.Receivers.{reach_later}
 use Rattle.causal_audit.proofs.Shown.{parts}
-use Rattle.causal_holders.proofs.Lemmas.Sets.{inserted, removed}
+use Rattle.causal_holders.proofs.Lemmas.Sets.{removed, some_member}
+use Rattle.std.specs.FinSet.{len-remove}
 use Rattle.causal_trace.proofs.Lemmas.RunProcesses.{crash_inside, restart_inside}
 
 abbrev Sets : Type 0
@@ -26,19 +27,12 @@ module _ (n : ℕ) (past : List Entry) (start k j : ℕ) (rows present : Sets) (
     -- the rows of older sends are correct, and so is the row of the newest entry if it is a send
     behind_next : (now : Sets) → ((v : ℕ) → start ≤ v → v < length past → row_of start now v ≡ row_of start rows v) → ((from to : Pid) (ssn : ℕ) → e ≡ Send from to ssn → (contains (row_of start now (length past)) j ≡ true) ↔ Reaches (e ∷ past) k (length past))
         → (v : ℕ) (from to : Pid) (ssn : ℕ) → start ≤ v → entry_at (e ∷ past) v ≡ Some (Send from to ssn) → (contains (row_of start now v) j ≡ true) ↔ Reaches (e ∷ past) k v
-    behind_next now same newest v from to ssn late at = elim (entry_cases e past v (Send from to ssn) at) [
-      | inl old ↦
-          let low : v < length past = entry_within past v (Send from to ssn) old in
-          let before = told.behind v from to ssn late old in (
-            λ h. reaches_more e past k v (before.0 (ap (λ s. contains s j) (sym (same v late low)) ∙ h)),
-            λ reach. ap (λ s. contains s j) (same v late low) ∙ before.1 (reaches_old e past k (accepted_forward n (e ∷ past) formed) v low reach),
-          )
-      | inr new ↦ subst (λ x. (contains (row_of start now x) j ≡ true) ↔ Reaches (e ∷ past) k x) (sym new.0) (newest from to ssn new.1)
-    ]
+    behind_next now same newest v from to ssn late at =
+        grind (arith, entry_cases e past v (Send from to ssn) at, entry_within, reaches_more, reaches_old e past k (accepted_forward n (e ∷ past) formed))
 
     -- an entry other than a send
     behind_same : message_sent e ≡ None → (v : ℕ) (from to : Pid) (ssn : ℕ) → start ≤ v → entry_at (e ∷ past) v ≡ Some (Send from to ssn) → (contains (row_of start rows v) j ≡ true) ↔ Reaches (e ∷ past) k v
-    behind_same none = behind_next rows (λ v late low. refl) (λ from to ssn is. absurd (let x : None ≡ Some _ = sym none ∙ ap message_sent is in cc))
+    behind_same none v from to ssn late at = grind (arith, behind_next rows)
 
     -- ---- the rows of the processes
 
@@ -49,19 +43,7 @@ module _ (n : ℕ) (past : List Entry) (start k j : ℕ) (rows present : Sets) (
     -- a crash or restart of one process, which has no dependences after it
     depends_removed : (w : ℕ) → w < length present → actor e ≡ None → ((p : ℕ) → p ≢ w → IsNoTurn e past p) → (Depends (e ∷ past) k w → ⊥) → (p : ℕ) → (contains (row (set present w empty) p) j ≡ true) ↔ Depends (e ∷ past) k p
     depends_removed w inside none no_turn gone p =
-        elim (eqb_tells p w) [
-          | inl here ↦
-              let is : row (set present w empty) p ≡ empty = ap (row (set present w empty)) here.1 ∙ get_or-set_same present w empty empty inside in
-              (λ h. absurd (none_in j (ap (λ s. contains s j) (sym is) ∙ h)), λ d. absurd (gone (subst (Depends (e ∷ past) k) here.1 d)))
-          | inr apart ↦
-              let same : row (set present w empty) p ≡ row present p = get_or-set_other present w p empty empty apart.1 in (
-                λ h. depends_more e past k p (no_turn p apart.1) ((told.depends p).0 (ap (λ s. contains s j) (sym same) ∙ h)),
-                λ d. ap (λ s. contains s j) same ∙ (told.depends p).1 (elim (depends_before n e past k p formed (no_turn p apart.1) d) [
-                  | inl old ↦ old
-                  | inr new ↦ absurd (let x : None ≡ Some p = sym none ∙ new.0 in cc)
-                ]),
-              )
-        ]
+        grind (arith, eqb_tells p w, get_or-set_same present w empty empty inside, get_or-set_other present w p empty empty, depends_more e past k p, depends_before n e past k p formed, none_in j, told.depends p, no_turn p)
 
   -- ---- each entry
 
@@ -129,32 +111,12 @@ module _ (n : ℕ) (past : List Entry) (start k j : ℕ) (rows present : Sets) (
         (delivery_tells n past k (λ p. contains (row present p) j) told.depends (contains own j) (contains brought j) (λ h. sym (is_own.0 h), λ is. is_own.1 (sym is)) to send rsn listed
         (is_brought at_send.0 at_send.1 at_send.2 at_send.3) formed)
 
+    depends_now : Reaches (e ∷ past) k (length past) → Depends (e ∷ past) k to.0
+    depends_now reach = record { up = delivers_up n past to send rsn listed formed.1; event = length past; present = inr (refl, refl, refl); reached = reach }
+
     -- after the delivery its receiver depends on the deliveries that reach it
     depends_set : to.0 < length present → (p : ℕ) → (contains (row (set present to.0 hit) p) j ≡ true) ↔ Depends (e ∷ past) k p
-    depends_set inside p =
-        elim (eqb_tells p to.0) [
-          | inl here ↦
-              let is : contains (row (set present to.0 hit) p) j ≡ contains hit j = ap (λ x. contains (row (set present to.0 hit) x) j) here.1 ∙ ap (λ s. contains s j) (get_or-set_same present to.0 hit empty inside) in
-              let up : is_down past p ≡ false = ap (is_down past) here.1 ∙ delivers_up n past to send rsn listed formed.1 in
-              let of : Some to.0 ≡ Some p = ap Some (sym here.1) in (
-                λ h. record { up = up; event = length past; present = inr (refl, of, refl); reached = (tells p of).0 (sym is ∙ h) },
-                λ d. is ∙ elim (depends_before n e past k p formed (refl, refl) d) [
-                  | inl old ↦ in_hit ∙ known (contains own j) (contains (row present to.0) j) (contains brought j) ((told.depends to.0).1 (subst (Depends past k) here.1 old))
-                  | inr new ↦ (tells p of).1 new.1
-                ],
-              )
-          | inr apart ↦
-              let same : row (set present to.0 hit) p ≡ row present p = get_or-set_other present to.0 p hit empty apart.1 in (
-                λ h. depends_more e past k p (refl, refl) ((told.depends p).0 (ap (λ s. contains s j) (sym same) ∙ h)),
-                λ d. ap (λ s. contains s j) same ∙ (told.depends p).1 (elim (depends_before n e past k p formed (refl, refl) d) [
-                  | inl old ↦ old
-                  | inr new ↦ absurd (apart.1 (let x : Some to.0 ≡ Some p = new.0 in let y : p ≡ to.0 = cc in y))
-                ]),
-              )
-        ]
-      where
-        known : (a b c : Bool) → b ≡ true → (a || (b || c)) ≡ true
-        known a b c h = grind (arith, nat_tests)
+    depends_set inside p = grind (arith, get_or-set_same, get_or-set_other, depends_more e past k p, depends_before n e past k p, tells p, depends_now, in_hit, nat_tests)
 
     abbrev pub newly : FinSet nat_cmp
     newly = difference hit (row present to.0)
@@ -165,17 +127,9 @@ module _ (n : ℕ) (past : List Entry) (start k j : ℕ) (rows present : Sets) (
       record { early = told.early; behind = behind_same e formed refl; depends = depends_set buffers },
       record {
         sound = λ h. (tells to.0 refl).0 (parts (contains hit j) (contains (row present to.0) j) (sym (contains-difference nat_cmp_total hit (row present to.0) j) ∙ h)).0;
-        complete = λ p of reach.
-            let same : to.0 ≡ p = let x : Some to.0 ≡ Some p = of in cc in
-            elim (either_new (contains hit j) (contains (row present to.0) j) ((tells p of).1 reach)) [
-              | inl new ↦ inl (contains-difference nat_cmp_total hit (row present to.0) j ∙ new)
-              | inr old ↦ inr (subst (Depends past k) same ((told.depends to.0).0 old))
-            ];
+        complete = λ p of reach. grind (arith, contains-difference nat_cmp_total hit (row present to.0) j, tells p of, told.depends to.0, nat_tests);
       },
     )
-      where
-        either_new : (a b : Bool) → a ≡ true → ((a && not b) ≡ true) ⊎ (b ≡ true)
-        either_new a b h = grind (arith, nat_tests)
 
 -- as above, for an entry that is given by an equation
 pub seen : (x y : Entry) (t start : ℕ) (rows present after now : Sets) (own newly : FinSet nat_cmp) → x ≡ y
@@ -193,32 +147,13 @@ told_before reach v before n past k j from to ssn formed is at = grind (arith, n
 
 -- the state before the walk
 pub begun : (past : List Entry) (start k j : ℕ) (rows present : Sets) → length past ≡ start → start ≤ k → ((p : ℕ) → row present p ≡ empty) → RowsShowReach past start k j rows present
-begun past start k j rows present long early none = record {
-  early = early;
-  behind = λ v from to ssn late at. absurd (omega (arith, long, late, entry_within past v (Send from to ssn) at));
-  depends = λ p. (
-    λ h. absurd (none_in j (ap (λ s. contains s j) (sym (none p)) ∙ h)),
-    λ d. absurd (omega (arith, long, early, event_below past d.event p (lane past p) d.present, reaches_begins past k d.event d.reached)),
-  );
-}
+begun past start k j rows present long early none = grind (arith, none_in, entry_within, event_below, reaches_begins)
 
 -- ---- a set without one of its members
 
 -- it is smaller
 pub fewer : (s : FinSet nat_cmp) (p : ℕ) → contains s p ≡ true → len (remove s p) < len s
-fewer s p within =
-    let more : len (insert (remove s p) p) ≡ len (remove s p) + 1 = len-insert nat_cmp_total (remove s p) p ∙ ap (λ b. cond b (len (remove s p)) (len (remove s p) + 1)) out in
-    omega (arith, more, ap len back)
-  where
-    out : contains (remove s p) p ≡ false
-    out = removed s p p ∙ ap (λ b. not b && contains s p) (eq-eqb p p refl)
-
-    either : (b c : Bool) → (b ≡ true → c ≡ true) → (b || (not b && c)) ≡ c
-    either b c h = grind (arith, nat_tests)
-
-    back : insert (remove s p) p ≡ s
-    back = same_set nat_cmp_total nat_cmp-IsAntisymmetric (insert (remove s p) p) s
-        (λ q. inserted (remove s p) p q ∙ ap (λ b. (p == q) || b) (removed s p q) ∙ either (p == q) (contains s q) (λ same. subst (λ x. contains s x ≡ true) (eqb-true p q same) within))
+fewer s p within = omega (arith, len-remove nat_cmp_total s p ∙ ap (λ b. cond b (len s - 1) (len s)) within, some_member s p within)
 
 -- its members are members of the set other than p
 pub left_in : (s : FinSet nat_cmp) (p j : ℕ) → contains (remove s p) j ≡ true → (contains s j ≡ true) × (j ≢ p)

@@ -1,11 +1,11 @@
 -- A walk over the entries for the deliveries of a group.
-use Rattle.causal_audit.proofs.Common.{ℕ, All, cases_lt, ◌≡◌, ◌+◌, ◌++◌, ◌<◌, inl, inr, Bool, true, false, List, [], ◌∷◌, length, Option, Some, None, refl, sym, ap, subst, ◌∙◌, arith, ◌≤◌, ◌⊎◌, Contains, ◌&&◌, ◌==◌, not, ◌↔◌, ◌||◌, nat_cmp, FinSet, contains, remove, empty, union, difference, contains-empty, contains-union, contains-difference, insert, false≢true, false_from_ne_true, eqb-true, eq-eqb, cases_Bool, Contains-push, Contains-push_cases, Contains-append_left, Contains-get_or, length-map, length-set, get_or-map, get_or-set_same, get_or-set_other, Det, Entry, instant, det_at, list_has, logs, entry_at, message_sent, Recording, AreLegalEntries, IsWellFormed, Depends, HasOrphan, accepted_then, det_then, det_within, instant_length, nat_cmp_total, nat_tests, Pid, Deliver, Crash, Restart, Forget, Send, Stable, max_entries, set}
+use Rattle.causal_audit.proofs.Common.{ℕ, All, cases_lt, ◌≡◌, ◌+◌, ◌++◌, ◌<◌, inl, inr, true, false, List, [], ◌∷◌, length, Option, Some, None, refl, sym, ap, subst, ◌∙◌, arith, ◌≤◌, ◌⊎◌, Contains, ◌==◌, ◌↔◌, nat_cmp, FinSet, contains, remove, empty, union, difference, contains-empty, contains-union, contains-difference, insert, false≢true, false_from_ne_true, eqb-true, eq-eqb, cases_Bool, Contains-push, Contains-push_cases, Contains-append_left, Contains-get_or, length-map, length-set, get_or-map, get_or-set_same, get_or-set_other, Det, Entry, instant, det_at, list_has, logs, entry_at, message_sent, Recording, AreLegalEntries, IsWellFormed, Depends, HasOrphan, accepted_then, det_then, det_within, instant_length, nat_cmp_total, nat_tests, Pid, Deliver, Crash, Forget, max_entries, set}
 use Rattle.causal_audit.specs.declared.breach.Breach.{Breach}
 use Rattle.causal_audit.specs.declared.group.copies.DetCopies.{DetCopies}
 use Rattle.causal_audit.specs.declared.group.suspects.WalkStep.{WalkStep}
 use Rattle.causal_audit.specs.declared.group.walk_input.OpenDelivery.{OpenDelivery}
 use Rattle.causal_audit.specs.BreachOrder.{earlier_breach}
-use Rattle.causal_audit.specs.Laws.{down_or_holding, IsExposed}
+use Rattle.causal_audit.specs.Laws.{IsExposed}
 use Rattle.causal_audit.specs.NewOrphans.{MayGetOrphan}
 use Rattle.causal_trace.specs.Past.{mentioned_dets}
 use Rattle.causal_audit.specs.Inside.Among.{FirstBreachBy, HasNoOrphanBy, EarliestAmongBy}
@@ -13,7 +13,7 @@ use Rattle.causal_audit.specs.Inside.DeliveryStates.{BreachAt}
 use Rattle.causal_audit.specs.Inside.Group.Walk.{AreCopiesOfGroup, AreDetCopies, AreCopiesAfter, copies_at, no_copies, AreHeldBefore, IsLacked, IsSuspect, IsBreachOfPlace, IsWalkStep, position_at, AreStillOpen, HasRow, HaveNoOrphans, IsWalkState, ArePlaces, AreNewlyReached, row, row_of, IsReach, AppliesEntry, IsPlaceAdded, opened_at, RowsAreHeld, IsDeliveredTo, IsHeldBy, CountsEarlier, ArePlacesAt, AreMentionedPlaces, AreMarked}
 use Rattle.causal_audit.specs.Inside.Group.OpenDeliveries.{positions_of, IsDeliveryAt, IsOpenDelivery}
 use Rattle.causal_audit.proofs.AmongLemmas.{among_push, among_wider, among_none}
-use Rattle.causal_audit.proofs.Between.{depends_before, logs_stay, stable_stays}
+use Rattle.causal_audit.proofs.Between.{depends_before, stable_stays}
 use Rattle.causal_audit.proofs.Lemmas.OrphansByCounts.{exposed, gone_orphan}
 use Rattle.causal_audit.proofs.Swept.{sweep_law, one_new_orphan}
 use Rattle.causal_audit.proofs.NoOrphanSoFar.{accepted_next, first_breach_is}
@@ -45,32 +45,13 @@ module _ (r : Recording) (candidates : List OpenDelivery) (s : WalkStep) (step :
 
 -- ---- the copies of a determinant
 
-held_or : (a b : Bool) → b ≡ true → b ≡ (a || b)
-held_or a b h = grind (arith, nat_tests)
-
-apart_or : (a l b : Bool) → a ≡ false → b ≡ ((a && l) || b)
-apart_or a l b h = grind (arith, nat_tests)
-
 -- a delivery to a process that logs d already does not change them
 copies_held : (e : Entry) (past : List Entry) (d : Det) (copies : DetCopies) → IsDeliveredTo e past d → AreDetCopies past d copies → AreDetCopies (e ∷ past) d copies
-copies_held (Deliver to send rsn listed) past d copies held are = grind (arith, held_or, apart_or)
-copies_held (Send from to ssn) past d copies held are = absurd held
-copies_held (Stable det) past d copies held are = absurd held
-copies_held (Crash who) past d copies held are = absurd held
-copies_held (Restart who listed) past d copies held are = absurd held
-copies_held (Forget who listed) past d copies held are = absurd held
-
-listed_or : (a l b : Bool) → l ≡ false → b ≡ ((a && l) || b)
-listed_or a l b h = grind (arith, nat_tests)
+copies_held e past d copies held are = grind (arith, nat_tests)
 
 -- who holds a determinant is unchanged by an entry that is not a crash and does not mention it
 logs_kept : (e : Entry) (past : List Entry) (d : Det) → is_crash e ≡ false → list_has (mentioned_dets e) d ≡ false → (p : ℕ) → logs past p d ≡ logs (e ∷ past) p d
-logs_kept (Send from to ssn) past d turn silent p = refl
-logs_kept (Deliver to send rsn listed) past d turn silent p = logs_stay (Deliver to send rsn listed) past d refl silent p
-logs_kept (Stable det) past d turn silent p = refl
-logs_kept (Crash who) past d turn silent p = absurd (false≢true (sym turn))
-logs_kept (Restart who listed) past d turn silent p = listed_or (who.0 == p) (list_has listed d) (logs past p d) silent
-logs_kept (Forget who listed) past d turn silent p = logs_stay (Forget who listed) past d refl silent p
+logs_kept e past d turn silent p = grind (arith, nat_tests)
 
 -- an entry does not change them if it is not a crash, and mentions the determinant at most for a process
 -- that logs it
@@ -93,12 +74,8 @@ pub renewed_more : (e : Entry) (mentioned places rest : FinSet nat_cmp) (old mid
 renewed_more e mentioned places rest old mid p here within inside so_far after = record {
   count = length-set mid p here ∙ so_far.count;
   left = λ j h. so_far.left j (left_in rest p j h).0;
-  renewed = λ j h out. elim (left_out rest p j out) [
-    | inl is ↦ subst (λ x. AreCopiesAfter e (contains mentioned x) (copies_at old x) (copies_at (set mid p here) x)) (sym is)
-        (subst (λ c. AreCopiesAfter e (contains mentioned p) (copies_at old p) c) (sym (get_or-set_same mid p here no_copies inside))
-        (subst (λ c. AreCopiesAfter e (contains mentioned p) c here) (so_far.ahead p within) after))
-    | inr down_or_holding ↦ subst (AreCopiesAfter e (contains mentioned j) (copies_at old j)) (sym (get_or-set_other mid p j here no_copies (λ is. false≢true (sym down_or_holding ∙ ap (contains rest) is ∙ within)))) (so_far.renewed j h down_or_holding)
-  ];
+  renewed = λ j h out.
+      grind (arith, left_out rest p j out, get_or-set_same mid p here no_copies inside, get_or-set_other mid p j here no_copies, so_far.renewed j h, so_far.ahead p within, after, within);
   ahead = λ j h. let still = left_in rest p j h in get_or-set_other mid p j here no_copies still.1 ∙ so_far.ahead j still.0;
   others = λ j h. get_or-set_other mid p j here no_copies (λ is. false≢true (sym h ∙ ap (contains places) is ∙ so_far.left p within)) ∙ so_far.others j h;
 }
@@ -123,18 +100,10 @@ suspect_by n f (Deliver to send rsn listed) past k j d newly mentioned present h
     let e = Deliver to send rsn listed in
     let x = exposed n f (e ∷ past) k d at has_one in
     let only : x.orphan ≡ to.0 = one_new_orphan n f past k d to send rsn listed x.orphan formed at has_one never (gone_orphan n f (e ∷ past) k d at x.orphan x.process x.unstable x.depends x.without) in
-    let new : contains newly j ≡ true = elim (depends_before n e past k to.0 formed (refl, refl) may.0) [
-      | inl old ↦ absurd (may.1 old)
-      | inr reach ↦ elim (is.complete to.0 refl reach.1) [ inl new ↦ new | inr old ↦ absurd (may.1 old) ]
-    ] in
+    let new : contains newly j ≡ true = grind (arith, depends_before n e past k to.0 formed (refl, refl) may.0, may.1, is.complete to.0 refl) in
     (new, subst (λ p. contains (row held p) j ≡ false) only (not_held n f e past k j d newly mentioned present held formed at depend so has_one))
-suspect_by n f (Restart who listed) past k j d newly mentioned present held formed at is says depend so has_one never may =
-    (says ∙ may, lacking n f (Restart who listed) past k j d newly mentioned present held formed at depend so has_one)
-suspect_by n f (Forget who listed) past k j d newly mentioned present held formed at is says depend so has_one never may =
-    (says ∙ may, lacking n f (Forget who listed) past k j d newly mentioned present held formed at depend so has_one)
-suspect_by n f (Send from to ssn) past k j d newly mentioned present held formed at is says depend so has_one never may = absurd may
-suspect_by n f (Stable det) past k j d newly mentioned present held formed at is says depend so has_one never may = absurd may
-suspect_by n f (Crash who) past k j d newly mentioned present held formed at is says depend so has_one never may = absurd may
+suspect_by n f e past k j d newly mentioned present held formed at is says depend so has_one never may =
+    grind (arith, lacking n f e past k j d newly mentioned present held formed at depend so has_one)
 
 -- a delivery with an orphan after a step, and none before, is a suspect
 pub suspect : (r : Recording) (f : ℕ) (candidates : List OpenDelivery) (start : ℕ) (buffers : WalkBuffers) (s : WalkStep) → IsWalkStep r candidates s → IsWalkState r candidates start (s.t + 1) buffers
@@ -171,10 +140,7 @@ found_next r candidates start buffers s step now j f low found none tells =
 
 -- the position of a place is in the list of positions
 pub among_opened : (candidates : List OpenDelivery) (j : ℕ) → j < length candidates → Contains (positions_of candidates) (position_at candidates j)
-among_opened candidates j low =
-    let zero : OpenDelivery = record { position = 0; until = 0 } in
-    let count : j < length (positions_of candidates) = omega (arith, low, length-map candidates position) in
-    subst (Contains (positions_of candidates)) (get_or-map position candidates j zero 0 low) (Contains-get_or (positions_of candidates) j 0 count)
+among_opened candidates j low = grind (arith, length-map candidates position, get_or-map, Contains-get_or (positions_of candidates) j 0)
 
 -- all places except the remaining ones are checked
 pub record HaveJudged (r : Recording) (f : ℕ) (candidates : List OpenDelivery) (t : ℕ) (places rest : FinSet nat_cmp) (least : Option Breach) : Type 0 where
@@ -195,10 +161,8 @@ judged_more r f candidates t places rest least found p within so_far among first
   left = λ j h. so_far.left j (left_in rest p j h).0;
   done = so_far.done ++ position_at candidates p ∷ [];
   inside = λ k listed. grind (arith, Contains-push_cases so_far.done (position_at candidates p) k listed);
-  each = λ j h out. elim (left_out rest p j out) [
-    | inl is ↦ subst (λ x. Contains (so_far.done ++ position_at candidates p ∷ []) (position_at candidates x)) (sym is) (Contains-push so_far.done (position_at candidates p))
-    | inr down_or_holding ↦ Contains-append_left so_far.done (position_at candidates p ∷ []) (position_at candidates j) (so_far.each j h down_or_holding)
-  ];
+  each = λ j h out.
+      grind (arith, left_out rest p j out, Contains-push so_far.done (position_at candidates p), Contains-append_left so_far.done (position_at candidates p ∷ []) (position_at candidates j), so_far.each j h);
   found = among_push r f (t + 1) so_far.done (position_at candidates p) least found so_far.found first;
 }
 
@@ -214,15 +178,7 @@ pub copied_next : (r : Recording) (candidates : List OpenDelivery) (s : WalkStep
     → ((j : ℕ) → contains places j ≡ false → copies_at new j ≡ copies_at old j) → ((j : ℕ) → contains places j ≡ true → AreCopiesAfter s.entry.now (contains s.mentioned j) (copies_at old j) (copies_at new j))
     → AreCopiesOfGroup r candidates s.t old → AreCopiesOfGroup r candidates (s.t + 1) new
 copied_next r candidates s step all held places old new are before quiet others renewed known j d low at =
-    let past = instant r.past s.t in
-    let told = step.mentioned j d low at in
-    subst (λ x. AreDetCopies x d (copies_at new j)) (sym step.next) (elim (in_or_out places j) [
-      | inl seen ↦ renewed j seen past d told (known j d low at)
-      | inr out ↦
-          let still = quiet j ((are j).1 low) out in
-          subst (AreDetCopies (s.entry.now ∷ past) d) (sym (others j out))
-          (copies_still s.entry.now past d (copies_at old j) still.0 (elim still.1 [ inl silent ↦ inl (sym told ∙ silent) | inr holds ↦ inr (before j d low at holds) ]) (known j d low at))
-    ])
+    grind (arith, cases_Bool (contains places j), are j, before j d low at, quiet j, others j, renewed j, known j d low at, step.mentioned j d low at, copies_still)
 
 -- the place of a position in the list
 pub place_of : (candidates : List OpenDelivery) (k : ℕ) → Contains (positions_of candidates) k → (j : ℕ) × (j < length candidates) × (position_at candidates j ≡ k)
@@ -234,21 +190,9 @@ pub least_in_all : (r : Recording) (f : ℕ) (candidates : List OpenDelivery) (t
 least_in_all r f candidates t places rest least judged whole none =
     among_wider r f (t + 1) judged.done (positions_of candidates) least judged.inside (λ k listed.
     let at = place_of candidates k listed in
-    elim (in_or_out places at.0) [
-      | inl seen ↦ inl (subst (Contains judged.done) at.2 (judged.each at.0 seen (whole at.0)))
-      | inr out ↦ inr (subst (λ x. HasNoOrphanBy r f x (t + 1)) at.2 (none at.0 at.1 out))
-    ]) judged.found
+    grind (arith, in_or_out places at.0, at.2, judged.each at.0, whole at.0, none at.0 at.1)) judged.found
 
 -- ==== the determinants that each process is known to hold, after one more entry
-
-not_first : (a b c : Bool) → a ≡ false → c ≡ true → (not (a && b) && c) ≡ true
-not_first a b c h k = grind (arith, nat_tests)
-
-not_second : (a b c : Bool) → b ≡ false → c ≡ true → (not (a && b) && c) ≡ true
-not_second a b c h k = grind (arith, nat_tests)
-
-apart_and : (a c : Bool) → a ≡ false → c ≡ true → (not a && c) ≡ true
-apart_and a c h k = grind (arith, nat_tests)
 
 -- the rows of all processes except p are unchanged, and the row of p contains at most these places
 module _ (old new : List (FinSet nat_cmp)) (p : ℕ) (places : FinSet nat_cmp) (others : (i : ℕ) → (i ≡ p → ⊥) → row new i ≡ row old i)
@@ -272,15 +216,14 @@ held_forget who listed mentioned old new others here past j d says so q h =
       at_row old new who.0 (difference (row old who.0) mentioned) others here past j d so q h,
       parts,
       contains-difference nat_cmp_total (row old who.0) mentioned j,
-      not_second,
-      not_first,
+      nat_tests,
     )
 
 -- after a crash its process is known to hold no determinant
 pub held_crash : (who : Pid) (old new : List (FinSet nat_cmp)) → ((i : ℕ) → (i ≡ who.0 → ⊥) → row new i ≡ row old i)
     → ((j : ℕ) → contains (row new who.0) j ≡ true → contains {R = nat_cmp} empty j ≡ true)
     → (past : List Entry) (j : ℕ) (d : Det) → RowsAreHeld past j d old → RowsAreHeld (Crash who ∷ past) j d new
-held_crash who old new others here past j d so q h = grind (arith, at_row, contains-empty, apart_and)
+held_crash who old new others here past j d so q h = grind (arith, at_row, contains-empty, nat_tests)
 
 -- ==== a walk over the entries for the deliveries of a group
 
@@ -300,21 +243,11 @@ module _ (r : Recording) (candidates : List OpenDelivery) (start : ℕ) (buffers
 
 -- the receiver of a delivery logs the determinants of the places in its row
 pub held_then : (e : Entry) (past : List Entry) (rows : List (FinSet nat_cmp)) (places : FinSet nat_cmp) (j : ℕ) (d : Det) → IsHeldBy e rows places → RowsAreHeld past j d rows → contains places j ≡ true → IsDeliveredTo e past d
-held_then (Deliver to send rsn listed) past rows places j d by so h = so to.0 (subst (λ s. contains s j ≡ true) by h)
-held_then (Send from to ssn) past rows places j d by so h = none_in j (subst (λ s. contains s j ≡ true) by h)
-held_then (Stable det) past rows places j d by so h = none_in j (subst (λ s. contains s j ≡ true) by h)
-held_then (Crash who) past rows places j d by so h = none_in j (subst (λ s. contains s j ≡ true) by h)
-held_then (Restart who listed) past rows places j d by so h = none_in j (subst (λ s. contains s j ≡ true) by h)
-held_then (Forget who listed) past rows places j d by so h = none_in j (subst (λ s. contains s j ≡ true) by h)
+held_then e past rows places j d by so h = grind (arith, none_in)
 
 -- the row of an entry contains the places whose determinants it mentions
 mentions_here : (x : Entry) (j : ℕ) (here places : FinSet nat_cmp) (d : Det) → AreMentionedPlaces x here places → (message_sent x ≡ None → contains here j ≡ list_has (mentioned_dets x) d) → contains places j ≡ list_has (mentioned_dets x) d
-mentions_here (Send from to ssn) j here places d told marked = ap (λ s. contains s j) told ∙ contains-empty nat_cmp j
-mentions_here (Deliver to send rsn listed) j here places d told marked = ap (λ s. contains s j) told ∙ marked refl
-mentions_here (Stable det) j here places d told marked = ap (λ s. contains s j) told ∙ marked refl
-mentions_here (Crash who) j here places d told marked = ap (λ s. contains s j) told ∙ marked refl
-mentions_here (Restart who listed) j here places d told marked = ap (λ s. contains s j) told ∙ marked refl
-mentions_here (Forget who listed) j here places d told marked = ap (λ s. contains s j) told ∙ marked refl
+mentions_here e j here places d told marked = grind (arith, contains-empty)
 
 -- rows that are marked from t on remain so from t + 1 on, if only the row of t changes
 pub marked_next : (past : List Entry) (start : ℕ) (candidates : List OpenDelivery) (t : ℕ) (old new : Sets) → length new ≡ length old → ((i : ℕ) → t < start + i → row new i ≡ row old i) → AreMarked past start t candidates (length candidates) old
@@ -337,10 +270,7 @@ none_of_all r f end candidates none j low u within list_has = none (position_at 
 -- a delivery that is closed has no orphan
 pub none_over : (r : Recording) (f t : ℕ) (candidates : List OpenDelivery) (j : ℕ) → j < length candidates → All (IsOpenDelivery r f (t + 1)) candidates → HaveNoOrphans r f candidates t → (opened_at candidates j).until ≤ t + 1
     → HasNoOrphanBy r f (position_at candidates j) (t + 1)
-none_over r f t candidates j low later none over u within list_has = elim (cases_lt t u) [
-  | inl late ↦ later j zero low u (omega (arith, late, over)) within list_has
-  | inr early ↦ none j low u early list_has
-]
+none_over r f t candidates j low later none over u within list_has = grind (arith, cases_lt t u, later j zero low u, none j low u)
 
 -- it is removed from the set
 pub asked_less : (candidates : List OpenDelivery) (t place : ℕ) (unresolved : FinSet nat_cmp) → AreStillOpen candidates t unresolved → (opened_at candidates place).until ≤ t → AreStillOpen candidates t (remove unresolved place)
@@ -349,8 +279,7 @@ asked_less candidates t place unresolved are over = grind (arith, left_in, left_
 -- and the result is unchanged
 pub judged_over : (r : Recording) (f : ℕ) (candidates : List OpenDelivery) (t : ℕ) (places rest : FinSet nat_cmp) (least : Option Breach) (p : ℕ) → contains rest p ≡ true → HaveJudged r f candidates t places rest least
     → Contains (positions_of candidates) (position_at candidates p) → HasNoOrphanBy r f (position_at candidates p) (t + 1) → HaveJudged r f candidates t places (remove rest p) least
-judged_over r f candidates t places rest None p within so_far among none = judged_more r f candidates t places rest None None p within so_far among none
-judged_over r f candidates t places rest (Some b) p within so_far among none = judged_more r f candidates t places rest (Some b) None p within so_far among none
+judged_over r f candidates t places rest least p within so_far among none = grind (arith, judged_more r f candidates t places rest least None p within so_far among none)
 
 -- the places after one more delivery
 pub places_more : (places : FinSet nat_cmp) (place : ℕ) → ((j : ℕ) → (contains places j ≡ true) ↔ (j < place)) → (j : ℕ) → (contains (insert places place) j ≡ true) ↔ (j < place + 1)

@@ -1,6 +1,6 @@
 -- The sets of the entries of a walk, shared in slots.
 use Rattle.std.proofs.lemmas.Grind.{common_steps}
-use Rattle.causal_audit.proofs.Common.{ℕ, ◌≡◌, ◌<◌, ◌≤◌, inl, inr, Bool, true, List, [], ◌∷◌, ◌++◌, length, refl, sym, ap, subst, ◌∙◌, arith, All, set, get_or, nat_cmp, FinSet, empty, eqb_tells, get_or_default, insert, get_or-map, get_or-set_same, get_or-set_other, get_or-append_seam, get_or-eq_default, length-map, length-set, length-append, map-set}
+use Rattle.causal_audit.proofs.Common.{ℕ, ◌≡◌, ◌<◌, ◌≤◌, Bool, true, List, [], ◌∷◌, ◌++◌, length, refl, sym, ap, ◌∙◌, arith, All, set, get_or, nat_cmp, FinSet, empty, get_or_default, insert, get_or-map, get_or-set_same, get_or-set_other, get_or-append_seam, get_or-eq_default, length-map, length-set, length-append, map-set}
 use Rattle.std.proofs.lemmas.List.{ext_get_or}
 use Rattle.causal_audit.specs.Inside.Group.Rows.{AreFirst, AreSlots, IsAdded, IsAt, IsSlotOf, row, sets_of}
 
@@ -21,8 +21,7 @@ read_past slots sets i past = get_or-eq_default (sets_of slots sets) empty (omeg
 kept_sets : (slots : List ℕ) (old new : Sets) → All (λ slot. slot < length old) slots → ((s : ℕ) → s < length old → row new s ≡ row old s) → sets_of slots new ≡ sets_of slots old
 kept_sets slots old new within kept =
     ext_get_or empty (sets_of slots new) (sets_of slots old) (length-map slots (row new) ∙ sym (length-map slots (row old))) (λ i low.
-    let inside : i < length slots = omega (arith, low, length-map slots (row new)) in
-    read_slot slots new i inside ∙ kept (get_or slots i 0) (within i 0 inside) ∙ sym (read_slot slots old i inside))
+    grind (arith, read_slot slots new i, read_slot slots old i, length-map slots (row new), within i 0, kept (get_or slots i 0)))
 
 -- ---- the slot of a set
 
@@ -48,16 +47,7 @@ pub put_alone : (slots : List ℕ) (sets : Sets) (apart : Bool) (i slot : ℕ) (
 put_alone slots sets apart i slot places holds inside at more are =
     ext_get_or empty (sets_of slots (set sets slot places)) (set (sets_of slots sets) i places)
     (length-map slots (row (set sets slot places)) ∙ sym (length-set (sets_of slots sets) i places ∙ length-map slots (row sets))) (λ k below.
-    let low : k < length slots = omega (arith, below, length-map slots (row (set sets slot places))) in
-    read_slot slots (set sets slot places) k low ∙ elim (eqb_tells k i) [
-      | inl here ↦
-          let there : slot < length sets = subst (λ s. s < length sets) at (are.within i 0 inside) in
-          ap (row (set sets slot places)) (ap (λ x. get_or slots x 0) here.1 ∙ at) ∙ get_or-set_same sets slot places empty there
-          ∙ sym (ap (row (set (sets_of slots sets) i places)) here.1 ∙ get_or-set_same (sets_of slots sets) i places empty (omega (arith, inside, length-map slots (row sets))))
-      | inr other ↦
-          get_or-set_other sets slot (get_or slots k 0) places empty (λ same. other.1 (are.alone holds k i low inside (omega (arith, same, more)) (same ∙ sym at)))
-          ∙ sym (read_slot slots sets k low) ∙ sym (get_or-set_other (sets_of slots sets) i k places empty other.1)
-    ])
+    grind (arith, read_slot slots (set sets slot places) k, read_slot slots sets k, length-map, get_or-set_same, get_or-set_other, are.within i 0, are.alone holds k i))
 
 -- ---- a place is added to a set
 

@@ -2,7 +2,7 @@
 use Rattle.std.proofs.lemmas.Grind.{common_steps}
 use Rattle.std.proofs.lemmas.List.Sums.{count_by-le-length, count_by_more_no, count_by_more_yes, sum_by-append, sum_by-cons}
 use Rattle.std.specs.Prelude.{count_by}
-use Rattle.causal_audit.proofs.Common.{ℕ, ◌≡◌, ◌+◌, ◌<◌, ◌≤◌, ◌==◌, cond, cond-true, cond-false, inl, inr, List, [], ◌∷◌, ◌++◌, length, get_or, set, take, replicate, refl, sym, ap, ◌∙◌, arith, eq-eqb, eqb_tells, length-append, length-set, get_or-set_same, get_or-set_other}
+use Rattle.causal_audit.proofs.Common.{ℕ, ◌≡◌, ◌+◌, ◌<◌, ◌≤◌, ◌==◌, cond, cond-true, List, [], ◌∷◌, ◌++◌, length, get_or, set, take, replicate, refl, ap, arith, eq-eqb, eqb_tells, length-append, length-set, get_or-set_same, get_or-set_other}
 use Rattle.causal_audit.specs.Inside.Index.Lists.{list_at, with_added}
 use Rattle.causal_audit.specs.Inside.Index.Packed.{AreOccurrences, HasSpareCapacity, HaveCapacityFor, ListsWithCapacities}
 
@@ -20,15 +20,7 @@ spare_next s v rest fits there = record {
 -- and for the others once its position is added
 pub spare_added : (s new : ListsWithCapacities) (v x : ℕ) (rest : List ℕ) → HaveCapacityFor s (v ∷ rest) → v < length s.lists → new.lists ≡ with_added s.lists v x → new.capacities ≡ s.capacities → HaveCapacityFor new rest
 spare_added s new v x rest fits there added same m low =
-    let inside : m < length s.lists = omega (arith, low, ap length added, length-set s.lists v (list_at s.lists v ++ x ∷ [])) in
-    elim (eqb_tells v m) [
-      | inl here ↦
-          let list : list_at new.lists m ≡ list_at s.lists m ++ x ∷ [] = grind (arith, here.0, here.1, get_or-set_same s.lists v (list_at s.lists v ++ x ∷ []) [] there) in
-          omega (arith, fits m inside, counted_next v m rest, cond-true {A = ℕ} (v == m) 1 0 here.0, ap length list, length-append (list_at s.lists m) (x ∷ []), ap (λ xs. get_or xs m 0) same)
-      | inr apart ↦
-          let list : list_at new.lists m ≡ list_at s.lists m = ap (λ ls. list_at ls m) added ∙ get_or-set_other s.lists v m (list_at s.lists v ++ x ∷ []) [] (λ is. apart.1 (sym is)) in
-          omega (arith, fits m inside, counted_next v m rest, cond-false {A = ℕ} (v == m) 1 0 apart.0, ap length list, ap (λ xs. get_or xs m 0) same)
-    ]
+    grind (arith, common_steps, counted_next v m rest, fits m, length-set, length-append, get_or-set_same, get_or-set_other)
 
 -- there is spare capacity for the first numbers
 pub spare_front : (s : ListsWithCapacities) (front back : List ℕ) → HaveCapacityFor s (front ++ back) → HaveCapacityFor s front
@@ -54,10 +46,4 @@ module _ (counts numbers : List ℕ) (i : ℕ) (inside : i < length numbers) (ea
   -- one more number
   pub one_more_counted : v < length counts → AreOccurrences (set counts v (get_or counts v 0 + 1)) (take (i + 1) numbers)
   one_more_counted there m low =
-      let below : m < length counts = omega (arith, low, length-set counts v (get_or counts v 0 + 1)) in
-      elim (eqb_tells v m) [
-        | inl here ↦
-            grind (arith, here.0, here.1, each m below, get_or-set_same counts v (get_or counts v 0 + 1) 0 there, count_by_more_yes (λ n. n == m) numbers i 0 inside)
-        | inr apart ↦
-            get_or-set_other counts v m (get_or counts v 0 + 1) 0 (λ is. apart.1 (sym is)) ∙ each m below ∙ sym (count_by_more_no (λ n. n == m) numbers i 0 inside apart.0)
-      ]
+      grind (arith, eqb_tells v m, each m, length-set, get_or-set_same, get_or-set_other, count_by_more_yes (λ n. n == m) numbers i 0 inside, count_by_more_no (λ n. n == m) numbers i 0 inside)

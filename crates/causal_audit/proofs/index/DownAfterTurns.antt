@@ -1,6 +1,6 @@
 -- The crashes and restarts, and the down processes after each.
 use Rattle.std.proofs.lemmas.Grind.{common_steps}
-use Rattle.causal_audit.proofs.Common.{ℕ, ◌≡◌, ◌+◌, ◌<◌, ◌≤◌, inl, inr, true, false, List, [], length, get_or, Some, refl, sym, ap, subst, ◌∙◌, arith, nat_cmp, FinSet, empty, IsPartitionPoint, cases_lt, false≢true, false_from_ne_true, get_or_default, Entry, Send, Deliver, Stable, Crash, Restart, Forget, instant, entry_at, is_down}
+use Rattle.causal_audit.proofs.Common.{ℕ, ◌≡◌, ◌+◌, ◌<◌, ◌≤◌, true, false, List, [], length, get_or, Some, refl, sym, subst, ◌∙◌, arith, nat_cmp, FinSet, empty, IsPartitionPoint, false≢true, false_from_ne_true, get_or_default, Entry, Restart, instant, entry_at, is_down}
 use Rattle.causal_audit.specs.declared.index.transitions.Transitions.{Transitions}
 use Rattle.causal_audit.specs.declared.index.transitions.TransitionCursor.{TransitionCursor}
 use Rattle.causal_audit.specs.Inside.Index.Lists.{AreTransitions}
@@ -22,12 +22,7 @@ module _ (past : List Entry) (list : List ℕ) (downs : List (FinSet nat_cmp)) (
     (point : IsPartitionPoint (λ v. v < t) (λ v. t ≤ v) list passed) where
   no_turn : (s : ℕ) → ((i : ℕ) → i < passed → get_or list i 0 < s) → (v : ℕ) (e : Entry) → s ≤ v → v < t → entry_at past v ≡ Some e → is_transition e ≡ false
   no_turn s old v e late early at =
-      are.turned v e at (λ listed.
-      let value : get_or list listed.0 0 ≡ v = get_or_default list listed.0 0 v listed.1 ∙ listed.2 in
-      elim (cases_lt listed.0 passed) [
-        | inl behind ↦ let low : get_or list listed.0 0 < s = old listed.0 behind in omega (arith, low, value, late)
-        | inr ahead ↦ let high : t ≤ get_or list listed.0 v = point.1 listed.0 v ahead listed.1 in omega (arith, high, listed.2, early)
-      ])
+      are.turned v e at (λ listed. grind (arith, get_or_default list listed.0 0 v listed.1, old listed.0, point.1 listed.0 v, listed.2))
 
   -- before the first of them no process is down
   pub none_turned : passed ≡ 0 → HasExactly empty (λ p. is_down (instant past t) p)
@@ -40,12 +35,8 @@ module _ (past : List Entry) (list : List ℕ) (downs : List (FinSet nat_cmp)) (
 -- ---- a scan to the next restart of one of these processes
 
 restarts_turn : (members : FinSet nat_cmp) (e : Entry) → restarts_one members e ≡ true → is_transition e ≡ true
-restarts_turn members (Send from to ssn) h = absurd (false≢true h)
-restarts_turn members (Deliver to send rsn listed) h = absurd (false≢true h)
-restarts_turn members (Stable det) h = absurd (false≢true h)
-restarts_turn members (Crash who) h = absurd (false≢true h)
 restarts_turn members (Restart who listed) h = refl
-restarts_turn members (Forget who listed) h = absurd (false≢true h)
+restarts_turn members _ h = absurd (false≢true h)
 
 -- the passed transitions from `from` on restart none of these processes
 abbrev pub PassNone : List Entry → List ℕ → FinSet nat_cmp → ℕ → ℕ → Type 0
@@ -58,18 +49,12 @@ module _ (past : List Entry) (list : List ℕ) (downs : List (FinSet nat_cmp)) (
   none_restarts u rest v e late early at =
       false_from_ne_true (restarts_one members e) (λ is.
       false≢true (sym (are.turned v e at (λ listed.
-      let value : get_or list listed.0 0 ≡ v = get_or_default list listed.0 0 v listed.1 ∙ listed.2 in
-      elim (cases_lt listed.0 passed) [
-        | inl behind ↦ false≢true (sym (none listed.0 e behind (omega (arith, value, late)) (ap (entry_at past) value ∙ at)) ∙ is)
-        | inr ahead ↦ let high : u ≤ get_or list listed.0 v = rest listed.0 v ahead listed.1 in omega (arith, high, listed.2, early)
-      ])) ∙ restarts_turn members e is))
+      grind (arith, get_or_default list listed.0 0 v listed.1, none listed.0 e, rest listed.0 v, listed.2))) ∙ restarts_turn members e is))
 
   module _ (x : ℕ) (there : passed < length list) (is : x ≡ get_or list passed x) where
     -- none that is left is before the next one
     pub left_above : (i v : ℕ) → passed ≤ i → i < length list → x ≤ get_or list i v
-    left_above i v ahead inside =
-        let up : get_or list passed v ≤ get_or list i v = are.ascends.ascending passed i v ahead inside in
-        omega (arith, up, is, get_or_default list passed x v there)
+    left_above i v ahead inside = grind (arith, are.ascends.ascending passed i v, get_or_default list passed x v there)
 
     -- a transition that restarts none of these processes is passed too
     pub passed_one_more : (e : Entry) → entry_at past x ≡ Some e → restarts_one members e ≡ false → PassNone past list members from (passed + 1)

@@ -1,7 +1,8 @@
 -- How many processes are down, and the restarts by the number that are down after them.
-use Rattle.causal_audit.proofs.Common.{ℕ, zero, suc, ◌≡◌, ◌+◌, ◌<◌, ◌≤◌, inl, inr, Bool, true, false, cond, List, [], ◌∷◌, length, Some, None, refl, sym, ap, subst, ◌∙◌, arith, not, ◌==◌, ◌&&◌, ◌||◌, Contains, All, All-weaker, ne_eqb, or_right, eqb_tells, count_below, count_below-within, Entry, Send, Deliver, Stable, Crash, Restart, Forget, Pid, Det, instant, entry_at, is_down, AreLegalEntries, instants_stay, one_more_instant, IsNonDecreasing}
+use Rattle.causal_audit.proofs.Common.{ℕ, zero, suc, ◌≡◌, ◌+◌, ◌<◌, ◌≤◌, inl, inr, Bool, true, false, cond, List, [], ◌∷◌, length, Some, refl, ap, subst, ◌∙◌, arith, not, ◌==◌, ◌&&◌, ◌||◌, Contains, All, All-weaker, ne_eqb, or_right, eqb_tells, count_below, count_below-within, Entry, Crash, Restart, Pid, Det, instant, entry_at, is_down, AreLegalEntries, instants_stay, one_more_instant, IsNonDecreasing}
 use Rattle.causal_name.specs.Sets.{union_test}
 use Rattle.causal_holders.proofs.Lemmas.MemberCounts.{count_below-same, at_most_one}
+use Rattle.std.proofs.lemmas.Bool.Decides.{nat_tests}
 use Rattle.causal_audit.specs.Inside.Index.Falls.{AreFalls}
 use Rattle.causal_audit.specs.Inside.Index.Lists.{Ascends, list_at, with_added}
 use Rattle.causal_audit.specs.Inside.PositionLists.{HasNoneUntil}
@@ -17,18 +18,12 @@ pub one_fewer : (n : ℕ) (test : ℕ → Bool) (w : ℕ) → count_below n test
 one_fewer zero test w = omega arith
 one_fewer (suc n) test w =
     elim (eqb_tells w n) [
-      | inl same ↦
-          let rest : count_below n test ≡ count_below n (λ p. not (w == p) && test p) =
-          count_below-same n test (λ p. not (w == p) && test p) (λ q low. ap (λ b. not b && test q) (sym (ne_eqb w q (λ is. omega (arith, is, low, same.1))))) in
-          omega (arith, rest, at_most_one (test n))
-      | inr apart ↦
-          let last : cond {A = ℕ} (test n) 1 0 ≡ cond {A = ℕ} (not (w == n) && test n) 1 0 = ap (λ b. cond (not b && test n) 1 0) (sym apart.0) in
-          omega (arith, last, one_fewer n test w)
+      | inl same ↦ grind (arith, count_below-same n test (λ p. not (w == p) && test p), ne_eqb, at_most_one (test n))
+      | inr apart ↦ grind (arith, apart.0, one_fewer n test w)
     ]
 
 both_counted : (a b : Bool) → (a ≡ true → b ≡ false) → cond (a || b) 1 0 ≡ cond a 1 0 + cond b 1 0
-both_counted true b apart = let none : cond {A = ℕ} b 1 0 ≡ 0 = ap {B = ℕ} (λ x. cond x 1 0) (apart refl) in omega (arith, none)
-both_counted false b apart = omega arith
+both_counted a b apart = grind (arith, nat_tests)
 
 -- the union of disjoint sets has as many members as both together
 pub disjoint_counted : (n : ℕ) (a b : ℕ → Bool) → ((p : ℕ) → a p ≡ true → b p ≡ false) → count_below n (union_test a b) ≡ count_below n a + count_below n b
@@ -38,47 +33,32 @@ disjoint_counted (suc n) a b apart = omega (arith, disjoint_counted n a b apart,
 -- ---- the lists, with one more entry
 
 module _ (e : Entry) (past : List Entry) (lists : List (List ℕ)) (are : AreFalls past lists) where
-  longer : length past + 1 ≡ length (e ∷ past)
-  longer = omega arith
-
-  -- the number that is down after an older entry is unchanged
-  same_down : (n v : ℕ) → v < length past → count_below n (is_down (instant (e ∷ past) (v + 1))) ≡ count_below n (is_down (instant past (v + 1)))
-  same_down n v below = ap (λ x. count_below n (is_down x)) (instants_stay e past (v + 1) (omega (arith, below)))
-
   old_listed : (n v : ℕ) (who : Pid) (listed : List Det) → AreLegalEntries n (e ∷ past) → entry_at past v ≡ Some (Restart who listed)
       → (Contains (list_at lists (count_below n (is_down (instant (e ∷ past) (v + 1))))) v → ⊥) → ⊥
-  old_listed n v who listed legal at absent =
-      are.all n v who listed legal.0 at (λ there. absent (subst (λ c. Contains (list_at lists c) v) (sym (same_down n v (entry_within past v (Restart who listed) at))) there))
+  old_listed n v who listed legal at absent = grind (arith, are.all n v who listed legal.0 at, instants_stay e past (v + 1), entry_within past v (Restart who listed) at)
 
   -- an entry that is no restart
   pub falls_same : ((who : Pid) (listed : List Det) → e ≡ Restart who listed → ⊥) → AreFalls (e ∷ past) lists
   falls_same none = record {
-    ascend = subst (λ n. All (Ascends n) lists) longer (ascend_weaker (length past) (length past + 1) lists (omega arith) are.ascend);
-    all = λ n v who listed legal at absent. elim (entry_cases e past v (Restart who listed) at) [
-      | inl old ↦ old_listed n v who listed legal old absent
-      | inr new ↦ none who listed new.1
-    ];
+    ascend = ascend_weaker _ _ lists (omega arith) are.ascend;
+    all = λ n v who listed legal at absent. grind (arith, entry_cases, old_listed n v who listed legal, none);
   }
 
   -- an entry after which so many are down
   pub falls_more : (c : ℕ) → ((n : ℕ) → AreLegalEntries n (e ∷ past) → count_below n (is_down (e ∷ past)) ≡ c) → c < length lists → AreFalls (e ∷ past) (with_added lists c (length past))
   falls_more c counts there = record {
-    ascend = subst (λ n. All (Ascends n) (with_added lists c (length past))) longer (added_ascend lists c (length past) there (ascend_weaker (length past) (length past + 1) lists (omega arith) are.ascend));
+    ascend = added_ascend lists c (length past) there _ _ (omega arith) (omega arith) are.ascend;
     all = λ n v who listed legal at absent. elim (entry_cases e past v (Restart who listed) at) [
       | inl old ↦ old_listed n v who listed legal old (λ list_has. absent (added_keeps lists c (length past) there (count_below n (is_down (instant (e ∷ past) (v + 1)))) v list_has))
       | inr new ↦
-          let here : count_below n (is_down (instant (e ∷ past) (length past + 1))) ≡ c = ap (λ x. count_below n (is_down x)) (one_more_instant e past) ∙ counts n legal in
-          absent (subst (λ w. Contains (list_at (with_added lists c (length past)) (count_below n (is_down (instant (e ∷ past) (w + 1))))) w) (sym new.0)
-          (subst (λ m. Contains (list_at (with_added lists c (length past)) m) (length past)) (sym here) (added_has lists c (length past) there)))
+          let here : count_below n (is_down (instant (e ∷ past) (v + 1))) ≡ c = ap (λ w. count_below n (is_down (instant (e ∷ past) (w + 1)))) new.0 ∙ ap (λ x. count_below n (is_down x)) (one_more_instant e past) ∙ counts n legal in
+          absent (rw (here, new.0) (added_has lists c (length past) there))
     ];
   }
 
 -- empty lists are correct for no entries
 pub falls_of_none : (lists : List (List ℕ)) → All (λ list. list ≡ []) lists → AreFalls [] lists
-falls_of_none lists all = record {
-  ascend = empty_ascend lists all;
-  all = λ n v who listed legal at absent. (let x : None ≡ Some (Restart who listed) = at in cc);
-}
+falls_of_none lists all = grind (arith, empty_ascend)
 
 -- the lists ascend
 pub falls_ascend : (past : List Entry) (lists : List (List ℕ)) → AreFalls past lists → All IsNonDecreasing lists
@@ -94,14 +74,11 @@ as_many : (n c : ℕ) (e : Entry) (past : List Entry) → c < count_below n (is_
 as_many n c e past more still = omega (arith, more, count_below-within n (is_down past) (is_down (e ∷ past)) (λ p low h. still p h))
 
 one_entry_more : (n c : ℕ) (e : Entry) (past : List Entry) → c < count_below n (is_down past) → ((who : Pid) (listed : List Det) → e ≡ Restart who listed → count_below n (is_down (e ∷ past)) ≡ c → ⊥) → c < count_below n (is_down (e ∷ past))
-one_entry_more n c (Send from to ssn) past more none = as_many n c (Send from to ssn) past more (λ p h. h)
-one_entry_more n c (Deliver to send rsn listed) past more none = as_many n c (Deliver to send rsn listed) past more (λ p h. h)
-one_entry_more n c (Stable det) past more none = as_many n c (Stable det) past more (λ p h. h)
-one_entry_more n c (Forget who listed) past more none = as_many n c (Forget who listed) past more (λ p h. h)
 one_entry_more n c (Crash who) past more none = as_many n c (Crash who) past more (λ p h. or_right (who.0 == p) (is_down past p) h)
 one_entry_more n c (Restart who listed) past more none =
     let fewer : count_below n (is_down past) ≤ count_below n (is_down (Restart who listed ∷ past)) + 1 = one_fewer n (is_down past) who.0 in
     omega (arith, more, fewer, none who listed refl)
+one_entry_more n c e past more none = as_many n c e past more (λ p h. h)
 
 pub more_down : (n : ℕ) (past : List Entry) → AreLegalEntries n past → (lists : List (List ℕ)) → AreFalls past lists → (c t next : ℕ) → HasNoneUntil (list_at lists c) t next → next ≤ length past
     → c < count_below n (is_down (instant past t)) → (u : ℕ) → t ≤ u → u ≤ next → c < count_below n (is_down (instant past u))

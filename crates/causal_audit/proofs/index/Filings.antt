@@ -1,12 +1,13 @@
 -- The lists of positions of an index, with one more position and one more entry.
 use Rattle.std.proofs.lemmas.Grind.{common_steps}
-use Rattle.causal_audit.proofs.Common.{ℕ, ◌≡◌, ◌≢◌, ◌+◌, ◌<◌, ◌≤◌, inl, inr, true, false, Result, Ok, Err, List, [], ◌∷◌, ◌++◌, length, Option, Some, None, refl, sym, ap, subst, ◌∙◌, arith, Bool, ◌⊎◌, OnOk, Contains, ◌==◌, ◌&&◌, option_map_or, All, get_or-eq_default, cases_lt, false≢true, cond-true, cond-false, false_from_ne_true, eqb-true, eq-eqb, ne_eqb, or_cases, or_left, or_right, get_or-set_same, get_or-set_other, get_or_past, All-push, All-set, All-get_or, All-weaker, Contains-append_left, Contains-push, Contains-push_cases, IsNonDecreasingBy-push, Entry, entry_at, list_has, nat_cmp, FinSet, contains, empty, remove, contains-empty, IsNonDecreasing, Send, Deliver, Stable, Crash, Restart, Forget, entry_beyond, Det, same_det}
+use Rattle.causal_audit.proofs.Common.{ℕ, ◌≡◌, ◌≢◌, ◌+◌, ◌<◌, ◌≤◌, inl, inr, true, false, List, [], ◌∷◌, ◌++◌, length, Option, Some, None, refl, sym, ap, subst, ◌∙◌, arith, Bool, ◌⊎◌, Contains, ◌==◌, ◌&&◌, option_map_or, All, get_or-eq_default, cases_lt, false≢true, cond-true, cond-false, false_from_ne_true, eqb-true, eq-eqb, ne_eqb, or_cases, or_left, or_right, get_or-set_same, get_or-set_other, get_or_past, All-push, All-set, All-get_or, All-weaker, Contains-append_left, Contains-push, Contains-push_cases, IsNonDecreasingBy-push, Entry, entry_at, list_has, nat_cmp, FinSet, contains, empty, remove, contains-empty, IsNonDecreasing, Crash, Restart, Det, same_det}
 use Rattle.causal_audit.specs.Inside.Index.Lists.{Ascends, list_at, with_added, AreMentions, AreMentionsWith, mentions_of, AreTransitionsOf, IsFirstCrash, restarts_or_crashes}
 use Rattle.causal_audit.specs.Inside.PositionLists.{HasNoneUntil}
 use Rattle.causal_audit.specs.Inside.SafetyScan.Persistence.{restarts_one, CrashesNone, RestartsNone}
 use Rattle.causal_audit.specs.Covered.{IsCrashOf}
 use Rattle.causal_audit.proofs.group.GroupReach.{left_out}
-use Rattle.causal_audit.proofs.Steps.{entry_cases, entry_within}
+use Rattle.causal_audit.proofs.Steps.{entry_cases}
+use Rattle.causal_audit.proofs.index.Receivers.{newest_entry, older_entry}
 use Rattle.causal_trace.specs.Past.{mentioned_dets}
 use Rattle.std.specs.Prelude.{nat_lt}
 use Rattle.std.proofs.lemmas.Bool.{le-ltb, lt-ltb}
@@ -23,8 +24,11 @@ use Rattle.causal_trace.proofs.Lemmas.DeliveredDets.{has_more}
 pub ascends_weaker : (low high : ℕ) (list : List ℕ) → low ≤ high → Ascends low list → Ascends high list
 ascends_weaker low high list more a = grind (arith, All-weaker)
 
-pub ascends_push : (v : ℕ) (list : List ℕ) → Ascends (v + 1) list → Ascends (v + 1) (list ++ v ∷ [])
-ascends_push v list a = grind (arith, common_steps, IsNonDecreasingBy-push, All-push)
+ascends_push : (low high v : ℕ) (list : List ℕ) → low ≤ v + 1 → v < high → Ascends low list → Ascends high (list ++ v ∷ [])
+ascends_push low high v list few some a = grind (arith, common_steps, IsNonDecreasingBy-push, All-push, All-weaker)
+
+pub ascend_weaker : (low high : ℕ) (lists : List (List ℕ)) → low ≤ high → All (Ascends low) lists → All (Ascends high) lists
+ascend_weaker low high lists more all = All-weaker (Ascends low) (Ascends high) (λ list. ascends_weaker low high list more) lists all
 
 -- ---- lists with one more position in one of them
 
@@ -44,11 +48,9 @@ module _ (lists : List (List ℕ)) (m v : ℕ) (there : m < length lists) where
   pub added_cases : (j w : ℕ) → Contains (list_at (with_added lists m v) j) w → Contains (list_at lists j) w ⊎ ((j ≡ m) × (v ≡ w))
   added_cases j w list_has = grind (arith, common_steps, Contains-push_cases, added_here, added_other)
 
-  pub added_ascend : All (Ascends (v + 1)) lists → All (Ascends (v + 1)) (with_added lists m v)
-  added_ascend all = All-set (Ascends (v + 1)) lists m (list_at lists m ++ v ∷ []) (ascends_push v (list_at lists m) (All-get_or (Ascends (v + 1)) lists m [] there all)) all
-
-pub ascend_weaker : (low high : ℕ) (lists : List (List ℕ)) → low ≤ high → All (Ascends low) lists → All (Ascends high) lists
-ascend_weaker low high lists more all = All-weaker (Ascends low) (Ascends high) (λ list. ascends_weaker low high list more) lists all
+  pub added_ascend : (low high : ℕ) → low ≤ v + 1 → v < high → All (Ascends low) lists → All (Ascends high) (with_added lists m v)
+  added_ascend low high few some all =
+      All-set (Ascends high) lists m (list_at lists m ++ v ∷ []) (ascends_push low high v (list_at lists m) few some (All-get_or (Ascends low) lists m [] there all)) (ascend_weaker low high lists (omega (arith, few, some)) all)
 
 -- ---- empty lists
 
@@ -58,31 +60,15 @@ empty_ascend lists all = All-weaker (λ list. list ≡ []) (Ascends 0) (λ list 
 pub nothing_in : (lists : List (List ℕ)) → All (λ list. list ≡ []) lists → (m v : ℕ) → Contains (list_at lists m) v → ⊥
 nothing_in lists all m v list_has = grind (arith, get_or-eq_default)
 
--- a consequence of the fact that success promises is promised too
-pub on_ok : {A E P Q : Type 0} (r : Result A E) → (P → Q) → OnOk r P → OnOk r Q
-on_ok (Ok x) f h = f h
-on_ok (Err e) f h = tt
-
 -- ==== the lists of the crashes of each process, and of its restarts
 
 -- ---- one more entry
 
--- an older entry is at the same position in the shorter past
-older_entry : (e : Entry) (past : List Entry) (v : ℕ) (x : Entry) → entry_at past v ≡ Some x → entry_at (e ∷ past) v ≡ Some x
-older_entry e past v x at =
-    elim (cases_lt v (length past)) [
-      | inl below ↦ cond-false (v == length past) (Some e) (entry_at past v) (ne_eqb v (length past) (λ is. omega (arith, is, below))) ∙ at
-      | inr beyond ↦ absurd (let is : None ≡ Some x = sym (entry_beyond past v beyond) ∙ at in cc)
-    ]
-
 module _ (restarts : Bool) (e : Entry) (past : List Entry) (lists : List (List ℕ)) (are : AreTransitionsOf restarts past lists) where
-  longer : length past + 1 ≡ length (e ∷ past)
-  longer = omega arith
-
   -- an entry that crashes or restarts no process
   pub turns_same : ((p : ℕ) → restarts_or_crashes restarts p e ≡ false) → AreTransitionsOf restarts (e ∷ past) lists
   turns_same none = record {
-    ascend = subst (λ n. All (Ascends n) lists) longer (ascend_weaker (length past) (length past + 1) lists (omega arith) are.ascend);
+    ascend = ascend_weaker _ _ lists (omega arith) are.ascend;
     only = λ p v listed. let was = are.only p v listed in (was.0, older_entry e past v was.0 was.1, was.2);
     all = λ p v x at absent. grind (arith, entry_cases e past v x at);
   }
@@ -90,10 +76,10 @@ module _ (restarts : Bool) (e : Entry) (past : List Entry) (lists : List (List �
   -- an entry that crashes or restarts this process
   pub turns_more : (q : ℕ) → ((p : ℕ) → restarts_or_crashes restarts p e ≡ (q == p)) → q < length lists → AreTransitionsOf restarts (e ∷ past) (with_added lists q (length past))
   turns_more q of there = record {
-    ascend = subst (λ n. All (Ascends n) (with_added lists q (length past))) longer (added_ascend lists q (length past) there (ascend_weaker (length past) (length past + 1) lists (omega arith) are.ascend));
+    ascend = added_ascend lists q (length past) there _ _ (omega arith) (omega arith) are.ascend;
     only = λ p v listed. elim (added_cases lists q (length past) there p v listed) [
       | inl old ↦ let was = are.only p v old in (was.0, older_entry e past v was.0 was.1, was.2)
-      | inr new ↦ (e, cond-true (v == length past) (Some e) (entry_at past v) (eq-eqb v (length past) (sym new.1)), of p ∙ eq-eqb q p (sym new.0))
+      | inr new ↦ (e, newest_entry e past v (sym new.1), of p ∙ eq-eqb q p (sym new.0))
     ];
     all = λ p v x at absent. elim (entry_cases e past v x at) [
       | inl old ↦ are.all p v x old (λ list_has. absent (added_keeps lists q (length past) there p v list_has))
@@ -117,11 +103,7 @@ turns_ascend restarts past lists are = All-weaker (Ascends (length past)) IsNonD
 
 crash_from : (past : List Entry) (p v : ℕ) (e : Entry) → entry_at past v ≡ Some e → restarts_or_crashes false p e ≡ true → IsCrashOf past p v
 crash_from past p v (Crash who) at is = (who, at, eqb-true who.0 p is)
-crash_from past p v (Restart who listed) at is = absurd (false≢true is)
-crash_from past p v (Send from to ssn) at is = absurd (false≢true is)
-crash_from past p v (Deliver to send rsn listed) at is = absurd (false≢true is)
-crash_from past p v (Stable det) at is = absurd (false≢true is)
-crash_from past p v (Forget who listed) at is = absurd (false≢true is)
+crash_from past p v _ at is = absurd (false≢true is)
 
 -- the first position after k in the list of a process is its first crash after k
 pub first_crash_is : (past : List Entry) (lists : List (List ℕ)) (p k end c : ℕ) → AreTransitionsOf false past lists → k + 1 ≤ c → c ≤ end → HasNoneUntil (list_at lists p) (k + 1) c → (c < end → Contains (list_at lists p) c) → IsFirstCrash past p k end c
@@ -149,12 +131,8 @@ rest_less lists members rest from next nearer p low here none q member out =
 
 -- an entry that restarts one of these processes restarts exactly one of them
 restarted_one : (members : FinSet nat_cmp) (e : Entry) → restarts_one members e ≡ true → (p : ℕ) × (contains members p ≡ true) × (restarts_or_crashes true p e ≡ true)
-restarted_one members (Send from to ssn) h = absurd (false≢true h)
-restarted_one members (Deliver to send rsn listed) h = absurd (false≢true h)
-restarted_one members (Stable det) h = absurd (false≢true h)
-restarted_one members (Crash who) h = absurd (false≢true h)
 restarted_one members (Restart who listed) h = (who.0, h, eq-eqb who.0 who.0 refl)
-restarted_one members (Forget who listed) h = absurd (false≢true h)
+restarted_one members _ h = absurd (false≢true h)
 
 -- if no process remains, none of them restarts before `next`
 pub none_rest : (past : List Entry) (lists : List (List ℕ)) (members : FinSet nat_cmp) (from next : ℕ) → AreTransitionsOf true past lists → RestNone lists members empty from next → RestartsNone past members from next
@@ -199,49 +177,36 @@ cases_of (Some j) lists m v w there list_has = grind (arith, added_cases lists m
 pub mentions_more : (past : List Entry) (dets numbers : List Det) (lists : List (List ℕ)) (det : Det) (m : ℕ) → number_of (length lists) numbers det ≡ Some m → m < length lists → AreMentionsWith past dets numbers lists → AreMentionsWith past (dets ++ det ∷ []) numbers (with_added lists m (length past))
 mentions_more past dets numbers lists det m at there are =
     record {
-      ascend = added_ascend lists m (length past) there are.ascend;
-      mentioned = λ d v e is unlisted. are.mentioned d v e is (λ listed. unlisted (back d v (keeps_of (number d) lists m (length past) v there listed)));
+      ascend = added_ascend lists m (length past) there _ _ (omega arith) (omega arith) are.ascend;
+      mentioned = λ d v e is unlisted. are.mentioned d v e is (λ listed. unlisted (kept d v listed));
       noted = λ d listed. elim (or_cases (list_has dets d) (same_det d det) (sym (has_more dets det d) ∙ listed)) [
-        | inl before ↦ back d (length past) (keeps_of (number d) lists m (length past) (length past) there (are.noted d before))
-        | inr now ↦
-            back d (length past) (subst (λ o. Contains (option_map_or (list_at more) o []) (length past)) (sym (ap number (same_is d det now) ∙ at))
-            (added_has lists m (length past) there))
+        | inl before ↦ kept d (length past) (are.noted d before)
+        | inr now ↦ grind (arith, length-set, same_is d det now, added_has lists m (length past) there)
       ];
-      only = λ d v listed. elim (cases_of (number d) lists m (length past) v there (subst (λ o. Contains (option_map_or (list_at more) o []) v) (same d) listed)) [
+      only = λ d v listed. elim (cases_of (number_of (length lists) numbers d) lists m (length past) v there (rw length-set at listed)) [
         | inl old ↦ elim (are.only d v old) [
           | inl before ↦ inl before
           | inr now ↦ inr (now.0, has_more dets det d ∙ or_left (list_has dets d) (same_det d det) now.1)
         ]
         | inr new ↦ inr (sym new.1, has_more dets det d ∙ or_right (list_has dets d) (same_det d det) (numbers_apart (length lists) numbers d det m new.0 at))
       ];
-      owned = λ i v d listed own. same d ∙ elim (added_cases lists m (length past) there i v listed) [
+      owned = λ i v d listed own. rw length-set (elim (added_cases lists m (length past) there i v listed) [
         | inl old ↦ are.owned i v d old own
         | inr new ↦
             let one : same_det d det ≡ true = numbers_apart (m + 1) numbers d det m (subst (λ k. number_of (k + 1) numbers d ≡ Some k) new.0 own) (number_of_found (length lists) numbers det m at) in
-            ap number (same_is d det one) ∙ at ∙ ap (λ k. Some k) (sym new.0)
-      ];
+            grind (arith, same_is d det one)
+      ]);
     }
   where
-    more : List (List ℕ)
-    more = with_added lists m (length past)
-
-    number : Det → Option ℕ
-    number = number_of (length lists) numbers
-
-    same : (d : Det) → number_of (length more) numbers d ≡ number d
-    same d = ap (λ n. number_of n numbers d) (length-set lists m (list_at lists m ++ length past ∷ []))
-
-    back : (d : Det) (v : ℕ) → Contains (option_map_or (list_at more) (number d) []) v → Contains (mentions_of numbers more d) v
-    back d v = subst (λ o. Contains (option_map_or (list_at more) o []) v) (sym (same d))
-
--- ---- before the first entry
+    kept : (d : Det) (v : ℕ) → Contains (mentions_of numbers lists d) v → Contains (mentions_of numbers (with_added lists m (length past)) d) v
+    kept d v listed = rw length-set (keeps_of (number_of (length lists) numbers d) lists m (length past) v there listed)
 
 -- ---- one more entry
 
 -- before the determinants of the next entry are added, the lists are correct for the run
 pub mentions_begun : (past : List Entry) (numbers : List Det) (lists : List (List ℕ)) → AreMentions past numbers lists → AreMentionsWith past [] numbers lists
 mentions_begun past numbers lists are = record {
-  ascend = ascend_weaker (length past) (length past + 1) lists (omega arith) are.ascend;
+  ascend = ascend_weaker _ _ lists (omega arith) are.ascend;
   mentioned = are.mentioned;
   noted = λ d listed. absurd (false≢true listed);
   only = λ d v listed. inl (are.only d v listed);
@@ -251,13 +216,11 @@ mentions_begun past numbers lists are = record {
 -- after all of them are added, the lists are correct for the run with this entry
 pub mentions_done : (e : Entry) (past : List Entry) (numbers : List Det) (lists : List (List ℕ)) → AreMentionsWith past (mentioned_dets e) numbers lists → AreMentions (e ∷ past) numbers lists
 mentions_done e past numbers lists are = record {
-  ascend = let more : length past + 1 ≡ length (e ∷ past) = omega arith in subst (λ n. All (Ascends n) lists) more are.ascend;
+  ascend = ascend_weaker _ _ lists (omega arith) are.ascend;
   mentioned = λ d v x at unlisted. grind (arith, cond-true, cond-false);
   only = λ d v listed. elim (are.only d v listed) [
-    | inl before ↦
-        let low : v < length past = entry_within past v before.0 before.1 in
-        (before.0, cond-false (v == length past) (Some e) (entry_at past v) (ne_eqb v (length past) (λ is. omega (arith, is, low))) ∙ before.1, before.2)
-    | inr now ↦ (e, cond-true (v == length past) (Some e) (entry_at past v) (eq-eqb v (length past) now.0), now.1)
+    | inl before ↦ (before.0, older_entry e past v before.0 before.1, before.2)
+    | inr now ↦ (e, newest_entry e past v now.0, now.1)
   ];
   owned = are.owned;
 }

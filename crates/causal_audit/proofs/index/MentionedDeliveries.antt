@@ -1,6 +1,7 @@
 -- Each determinant that an entry mentions is that of a delivery, so it has a number.
-use Rattle.causal_audit.proofs.Common.{ℕ, ◌≡◌, ◌+◌, ◌≤◌, inl, inr, Bool, true, List, [], ◌∷◌, length, reverse, take, Option, Some, None, refl, sym, ap, subst, ◌∙◌, arith, not, nat_lt, ◌&&◌, ◌||◌, All, All-cons, All-head, All-nil, All-push, All-tail, All-weaker, and_parts, option_map_or, is_some, cases_Bool, cases_lt, cond-true, cond-false, or_right, take_all, reverse-append, reverse-reverse, Det, same_det, Entry, Send, Deliver, Stable, Crash, Restart, Forget, Recording, AreLegalEntries, accepted_then, deliveries_in, det_of, entries_of, first_fault, instant, instants_stay, one_more_instant, row_fails}
-use Rattle.std.specs.List.{list_all}
+use Rattle.causal_audit.proofs.Common.{ℕ, ◌≡◌, ◌+◌, ◌≤◌, inl, inr, true, List, [], ◌∷◌, length, reverse, take, Option, Some, None, refl, sym, ap, subst, ◌∙◌, arith, not, ◌||◌, All, All-cons, All-nil, All-permutation, All-weaker, option_map_or, is_some, cases_lt, cond-true, cond-false, or_right, take_all, reverse-reverse, Det, Entry, Deliver, Stable, Restart, Forget, Recording, AreLegalEntries, accepted_then, deliveries_in, det_of, entries_of, first_fault, instant, instants_stay, one_more_instant, row_fails}
+use Rattle.std.proofs.lemmas.List.Sums.{AllPass-from_list_all}
+use Rattle.std.proofs.lemmas.List.Sorted.{IsPermutation-reverse}
 use Rattle.causal_trace.specs.Past.{is_delivered, is_det, mentioned_dets}
 use Rattle.causal_trace.specs.Numbers.{delivered_dets, number_of}
 use Rattle.causal_trace.specs.Rows.{are_delivered, are_delivered_with, rows_within, refusal_rows}
@@ -9,16 +10,6 @@ use Rattle.causal_trace.proofs.Lemmas.DeliveryNumbers.{delivered_numbered, liste
 use Rattle.causal_trace.proofs.Lemmas.EntryFacts.{not_false}
 use Rattle.causal_audit.specs.Inside.Index.Lists.{HaveNumbers}
 use Rattle.causal_audit.proofs.Steps.{begins}
-
--- ---- lists
-
-all_true : {A : Type 0} (p : A → Bool) (xs : List A) → list_all p xs ≡ true → All (λ x. p x ≡ true) xs
-all_true p [] h = All-nil (λ x. p x ≡ true)
-all_true p (x ∷ xs) h = let each = and_parts (p x) (list_all p xs) h in All-cons (λ y. p y ≡ true) x xs each.0 (all_true p xs each.1)
-
-all_reverse : {A : Type 0} (P : A → Type 0) (xs : List A) → All P xs → All P (reverse xs)
-all_reverse P [] all = All-nil P
-all_reverse P (x ∷ xs) all = subst (All P) (sym (reverse-append (x ∷ []) xs)) (All-push P (reverse xs) x (all_reverse P xs (All-tail P x xs all)) (All-head P x xs all))
 
 -- ---- mentioned determinants are those of deliveries
 
@@ -31,18 +22,17 @@ delivered_still e past dets all = All-weaker (λ d. is_delivered past d ≡ true
 -- by the next legal entry
 next_delivered : (n : ℕ) (past : List Entry) (e : Entry) → first_fault n past e ≡ None → AreDelivered (e ∷ past) (mentioned_dets e)
 unfolding rows_within
-next_delivered n past (Send from to ssn) legal = All-nil (λ d. is_delivered (Send from to ssn ∷ past) d ≡ true)
 next_delivered n past (Deliver to send rsn listed) legal =
     let e : Entry = Deliver to send rsn listed in
-    all_true (λ d. is_det (det_of past e) d || is_delivered past d) listed (not_false (are_delivered_with past (det_of past e) listed) (row_fails (refusal_rows n past e) legal 7 (not (are_delivered_with past (det_of past e) listed), NoDelivery) refl))
+    AllPass-from_list_all (λ d. is_det (det_of past e) d || is_delivered past d) listed (not_false (are_delivered_with past (det_of past e) listed) (row_fails (refusal_rows n past e) legal 7 (not (are_delivered_with past (det_of past e) listed), NoDelivery) refl))
 next_delivered n past (Stable det) legal =
     let told = not_false (is_delivered past det) (row_fails (refusal_rows n past (Stable det)) legal 1 (not (is_delivered past det), NoDelivery) refl) in
     delivered_still (Stable det) past (det ∷ []) (All-cons (λ d. is_delivered past d ≡ true) det [] told (All-nil (λ d. is_delivered past d ≡ true)))
-next_delivered n past (Crash who) legal = All-nil (λ d. is_delivered (Crash who ∷ past) d ≡ true)
 next_delivered n past (Restart who listed) legal =
-    delivered_still (Restart who listed) past listed (all_true (is_delivered past) listed (not_false (are_delivered past listed) (row_fails (refusal_rows n past (Restart who listed)) legal 5 (not (are_delivered past listed), NoDelivery) refl)))
+    delivered_still (Restart who listed) past listed (AllPass-from_list_all (is_delivered past) listed (not_false (are_delivered past listed) (row_fails (refusal_rows n past (Restart who listed)) legal 5 (not (are_delivered past listed), NoDelivery) refl)))
 next_delivered n past (Forget who listed) legal =
-    delivered_still (Forget who listed) past listed (all_true (is_delivered past) listed (not_false (are_delivered past listed) (row_fails (refusal_rows n past (Forget who listed)) legal 4 (not (are_delivered past listed), NoDelivery) refl)))
+    delivered_still (Forget who listed) past listed (AllPass-from_list_all (is_delivered past) listed (not_false (are_delivered past listed) (row_fails (refusal_rows n past (Forget who listed)) legal 4 (not (are_delivered past listed), NoDelivery) refl)))
+next_delivered n past e legal = All-nil (λ d. is_delivered (e ∷ past) d ≡ true)
 
 -- by each entry
 all_delivered : (n : ℕ) (past : List Entry) → AreLegalEntries n past → All (λ e. AreDelivered past (mentioned_dets e)) past
@@ -54,11 +44,7 @@ all_delivered n (e ∷ past) legal =
 -- ---- so they have numbers
 
 number_kept : (many : ℕ) (x : Det) (older : List Det) (d : Det) → is_some (number_of many older d) ≡ true → is_some (number_of many (x ∷ older) d) ≡ true
-number_kept many x older d h =
-    elim (cases_Bool (nat_lt (length older) many && same_det x d)) [
-      | inl newest ↦ ap is_some (cond-true (nat_lt (length older) many && same_det x d) (Some (length older)) (number_of many older d) newest)
-      | inr other ↦ ap is_some (cond-false (nat_lt (length older) many && same_det x d) (Some (length older)) (number_of many older d) other) ∙ h
-    ]
+number_kept many x older d h = grind (arith, cond-true, cond-false)
 
 one_more_kept : (many : ℕ) (o : Option Det) (older : List Det) (d : Det) → is_some (number_of many older d) ≡ true → is_some (number_of many (option_map_or (λ x. x ∷ older) o older) d) ≡ true
 one_more_kept many None older d h = h
@@ -70,11 +56,9 @@ number_then [] end many d within few h = grind arith
 number_then (e ∷ past) end many d within few h =
     elim (cases_lt (length past) end) [
       | inl late ↦
-          let whole : instant (e ∷ past) end ≡ e ∷ past = ap (instant (e ∷ past)) (let is : end ≡ length past + 1 = omega (arith, late, within) in is) ∙ one_more_instant e past in
-          sym (delivered_numbered many (e ∷ past) d (omega (arith, listed_once (e ∷ past), few, ap deliveries_in whole))) ∙ subst (λ p. is_delivered p d ≡ true) whole h
-      | inr early ↦
-          let then : instant (e ∷ past) end ≡ instant past end = instants_stay e past end early in
-          one_more_kept many (det_of past e) (delivered_dets past) d (number_then past end many d early (subst (λ p. deliveries_in p ≤ many) then few) (subst (λ p. is_delivered p d ≡ true) then h))
+          let is : end ≡ length past + 1 = omega (arith, late, within) in
+          grind (arith, is, one_more_instant e past, delivered_numbered many (e ∷ past) d, listed_once (e ∷ past))
+      | inr early ↦ grind (arith, instants_stay e past end early, one_more_kept, number_then past end many d early)
     ]
 
 -- the determinants that entries before an instant mention have numbers among these deliveries
@@ -87,4 +71,4 @@ mentioned_numbered r es read legal end many within few =
     All-weaker (λ d. is_delivered then d ≡ true) (λ d. is_some (number_of many (delivered_dets r.past) d) ≡ true) (λ d. number_then r.past end many d within few) (mentioned_dets e)) then (all_delivered r.processes then (accepted_then r.processes r.past end legal)) in
     let es_then = take end es in
     let back : reverse then ≡ es_then = ap reverse (sym (begins r es read end within)) ∙ reverse-reverse (take (length es_then) es_then) ∙ take_all (length es_then) es_then (omega arith) in
-    subst (All P) back (all_reverse P then each)
+    subst (All P) back (All-permutation P then (reverse then) (IsPermutation-reverse then) each)

@@ -1,5 +1,5 @@
 -- The numbers of the determinants that entries mention, in order.
-use Rattle.causal_audit.proofs.Common.{ℕ, ◌≡◌, ◌+◌, ◌<◌, List, [], ◌∷◌, ◌++◌, length, get_or, take, drop, map, Option, Some, None, sym, ap, ◌∙◌, arith, append_assoc, append-nil, length-map, get_or-map, map-append, take_more, take_all, get_or_default, subst, All, Entry, Det}
+use Rattle.causal_audit.proofs.Common.{ℕ, ◌≡◌, ◌+◌, ◌<◌, ◌≤◌, List, [], ◌∷◌, ◌++◌, length, get_or, take, drop, map, Option, Some, None, sym, ap, ◌∙◌, arith, append_assoc, append-nil, length-append, length-map, get_or-map, map-append, take_more, take_all, get_or_default, All, Entry, Det}
 use Rattle.std.specs.List.{flat_map}
 use Rattle.std.proofs.lemmas.List.{append_cancel_left, drop_more, take-append-le}
 use Rattle.std.proofs.lemmas.Grind.{common_steps, flat_map-append}
@@ -10,6 +10,10 @@ use Rattle.causal_audit.specs.Inside.Index.Lists.{AreNumbersOf}
 
 abbrev some : ℕ → Option ℕ
 some v = Some v
+
+-- the determinants mentioned from an entry on begin with those of that entry
+mentioned_next : (entries : List Entry) (i : ℕ) (e : Entry) → i < length entries → e ≡ get_or entries i e → flat_map mentioned_dets (drop i entries) ≡ mentioned_dets e ++ flat_map mentioned_dets (drop (i + 1) entries)
+mentioned_next entries i e below is = ap (flat_map mentioned_dets) (drop_more entries i e below ∙ ap (λ x. x ∷ drop (i + 1) entries) (sym is))
 
 module _ (many : ℕ) (delivered : List Det) where
   abbrev number : Det → Option ℕ
@@ -35,23 +39,24 @@ module _ (many : ℕ) (delivered : List Det) where
   pub numbers_low : (dets : List Det) (numbers : List ℕ) → AreNumbersOf many delivered dets numbers → All (λ v. v < many) numbers
   numbers_low dets numbers are i d below =
       let next = next_numbered dets numbers i are below in
-      let low : get_or numbers i 0 < many = found_below (number_of many delivered next.0) many (get_or numbers i 0) (number_among many delivered next.0) next.2 in
-      subst (λ v. v < many) (get_or_default numbers i 0 d below) low
+      grind (arith, found_below (number_of many delivered next.0) many (get_or numbers i 0) (number_among many delivered next.0) next.2, get_or_default numbers i 0 d below)
 
   -- the numbers of the first determinants come first
-  pub parted_numbers : (a b : List Det) (numbers front back : List ℕ) → numbers ≡ front ++ back → length front ≡ length a → AreNumbersOf many delivered (a ++ b) numbers → AreNumbersOf many delivered a front × AreNumbersOf many delivered b back
+  parted_numbers : (a b : List Det) (numbers front back : List ℕ) → numbers ≡ front ++ back → length front ≡ length a → AreNumbersOf many delivered (a ++ b) numbers → AreNumbersOf many delivered a front × AreNumbersOf many delivered b back
   parted_numbers a b numbers front back parts long are =
       let n = length (map number a) in
       let whole : map number a ++ map number b ≡ map some front ++ map some back = sym (map-append number a b) ∙ are ∙ ap (map some) parts ∙ map-append some front back in
       let same : length (map some front) ≡ n = length-map front some ∙ long ∙ sym (length-map a number) in
-      let first : map number a ≡ map some front =
-      sym (take_all n (map number a) (omega arith)) ∙ sym (take-append-le n (map number a) (map number b) (omega arith)) ∙ ap (take n) whole
-      ∙ take-append-le n (map some front) (map some back) (omega (arith, same)) ∙ take_all n (map some front) (omega (arith, same)) in
+      let first : map number a ≡ map some front = grind (arith, ap (take n) whole, take_all, take-append-le, same) in
       (first, append_cancel_left (map number a) (map number b) (map some back) (whole ∙ ap (λ l. l ++ map some back) (sym first)))
 
--- the determinants mentioned from an entry on begin with those of that entry
-pub mentioned_next : (entries : List Entry) (i : ℕ) (e : Entry) → i < length entries → e ≡ get_or entries i e → flat_map mentioned_dets (drop i entries) ≡ mentioned_dets e ++ flat_map mentioned_dets (drop (i + 1) entries)
-mentioned_next entries i e below is = ap (flat_map mentioned_dets) (drop_more entries i e below ∙ ap (λ x. x ∷ drop (i + 1) entries) (sym is))
+  -- the numbers left begin with those of the next entry
+  pub next_numbers : (entries : List Entry) (i : ℕ) (e : Entry) (numbers : List ℕ) → i < length entries → e ≡ get_or entries i e → AreNumbersOf many delivered (flat_map mentioned_dets (drop i entries)) numbers
+      → (length (mentioned_dets e) ≤ length numbers) × ((front back : List ℕ) → numbers ≡ front ++ back → length front ≡ length (mentioned_dets e) → AreNumbersOf many delivered (mentioned_dets e) front × AreNumbersOf many delivered (flat_map mentioned_dets (drop (i + 1) entries)) back)
+  next_numbers entries i e numbers below is are =
+      let later = flat_map mentioned_dets (drop (i + 1) entries) in
+      let left = rw (mentioned_next entries i e below is) at are in
+      (omega (arith, as_many (mentioned_dets e ++ later) numbers left, length-append (mentioned_dets e) later), λ front back parts long. parted_numbers (mentioned_dets e) later numbers front back parts long left)
 
 -- the determinants mentioned up to an entry end with those of that entry
 pub mentioned_more : (entries : List Entry) (i : ℕ) (e : Entry) → i < length entries → e ≡ get_or entries i e → flat_map mentioned_dets (take (i + 1) entries) ≡ flat_map mentioned_dets (take i entries) ++ mentioned_dets e

@@ -1,6 +1,6 @@
 -- One more position in one of several lists that follow one another in one vector.
-use Rattle.std.proofs.lemmas.Grind.{common_steps}
-use Rattle.causal_audit.proofs.Common.{cases_lt, get_or_past, ℕ, ◌≡◌, ◌≢◌, ◌+◌, ◌-◌, ◌<◌, ◌≤◌, inl, inr, List, [], ◌∷◌, ◌++◌, length, take, drop, map, get_or, zero, suc, get_or-append_seam, get_or_default, set, refl, sym, ap, subst, ◌∙◌, arith, All, All-map, All-push, All-set, All-weaker, All-get_or, length-append, length-map, length-set, get_or-map, get_or-set_same, get_or-set_other, map-set}
+use Rattle.std.proofs.lemmas.Grind.{common_steps, get_or-set_at}
+use Rattle.causal_audit.proofs.Common.{cases_lt, get_or_past, ℕ, ◌≡◌, ◌≢◌, ◌+◌, ◌-◌, ◌<◌, ◌≤◌, List, [], ◌∷◌, ◌++◌, length, take, drop, map, get_or, zero, suc, get_or-append_seam, get_or_default, set, refl, sym, ap, subst, ◌∙◌, arith, All, All-map, All-push, All-set, All-weaker, All-get_or, length-append, length-map, length-set, get_or-map, get_or-set_same, get_or-set_other, map-set}
 use Rattle.std.proofs.lemmas.List.{drop-set-add, drop-set-lt, ext_get_or, length-drop, length-take-le, take-set-le}
 use Rattle.std.proofs.lemmas.Bool.Decides.{eqb_tells}
 use Rattle.std.proofs.Math.Seq.{take-suc-set}
@@ -18,7 +18,7 @@ limit_first size s [] = refl
 limit_first size s (next ∷ rest) = refl
 
 -- a list's capacity is from its start to that of the next list
-pub capacity_at : (size : ℕ) (spans : List ListSpan) (m : ℕ) (d : ListSpan) → m < length spans → get_or (list_capacities size spans) m 0 ≡ limit_in spans m size - (get_or spans m d).begin
+capacity_at : (size : ℕ) (spans : List ListSpan) (m : ℕ) (d : ListSpan) → m < length spans → get_or (list_capacities size spans) m 0 ≡ limit_in spans m size - (get_or spans m d).begin
 capacity_at size [] m d there = absurd (omega (arith, there))
 capacity_at size (s ∷ rest) zero d there = ap (λ n. n - s.begin) (limit_first size s rest)
 capacity_at size (s ∷ rest) (suc m) d there = grind (arith, capacity_at size rest m d (omega (arith, there)))
@@ -30,7 +30,7 @@ capacities_push b limit (s ∷ []) = refl
 capacities_push b limit (s ∷ next ∷ rest) = ap (λ xs. (next.begin - s.begin) ∷ xs) (capacities_push b limit (next ∷ rest))
 
 -- a span with the same start leaves the capacities unchanged
-pub capacities_still : (size : ℕ) (spans : List ListSpan) (m : ℕ) (new d : ListSpan) → m < length spans → new.begin ≡ (get_or spans m d).begin → list_capacities size (set spans m new) ≡ list_capacities size spans
+capacities_still : (size : ℕ) (spans : List ListSpan) (m : ℕ) (new d : ListSpan) → m < length spans → new.begin ≡ (get_or spans m d).begin → list_capacities size (set spans m new) ≡ list_capacities size spans
 capacities_still size [] m new d there same = refl
 capacities_still size (s ∷ rest) zero new d there same = ap (λ b. (limit_before size rest - b) ∷ list_capacities size rest) same
 capacities_still size (s ∷ []) (suc m) new d there same = absurd (omega (arith, there))
@@ -43,16 +43,10 @@ capacities_still size (s ∷ next ∷ rest) (suc (suc m)) new d there same =
 limit_inside : (size : ℕ) (spans : List ListSpan) (m : ℕ) (s : ListSpan) → ArePacked size spans → limit_in spans m size ≤ size
 limit_inside size spans m s packed =
     let nothing : ListSpan = record { begin = size; end = size } in
-    elim (cases_lt (m + 1) (length spans)) [
-      | inl below ↦
-          let inside : IsSpan size (get_or spans (m + 1) s) = All-get_or (IsSpan size) spans (m + 1) s below packed.each in
-          let next : limit_in spans m size ≡ (get_or spans (m + 1) s).begin = ap (λ (x : ListSpan). x.begin) (get_or_default spans (m + 1) nothing s below) in
-          omega (arith, next, inside.order, inside.within)
-      | inr beyond ↦ omega (arith, ap (λ (x : ListSpan). x.begin) (get_or_past spans (m + 1) nothing beyond))
-    ]
+    grind (arith, cases_lt (m + 1) (length spans), get_or_default spans (m + 1) nothing s, get_or_past spans (m + 1) nothing, packed.each (m + 1) s)
 
 -- a list with spare capacity ends before its limit and within the positions
-pub spare_in : (ps : List ℕ) (spans : List ListSpan) (m : ℕ) (s : ListSpan) → ArePacked (length ps) spans → HasSpareCapacity (record { lists = map (list_in ps) spans; capacities = list_capacities (length ps) spans }) m → s ≡ get_or spans m s → (m < length spans) × (s.end + 1 ≤ limit_in spans m (length ps)) × (s.end < length ps)
+spare_in : (ps : List ℕ) (spans : List ListSpan) (m : ℕ) (s : ListSpan) → ArePacked (length ps) spans → HasSpareCapacity (record { lists = map (list_in ps) spans; capacities = list_capacities (length ps) spans }) m → s ≡ get_or spans m s → (m < length spans) × (s.end + 1 ≤ limit_in spans m (length ps)) × (s.end < length ps)
 spare_in ps spans m s packed has is =
     let there : m < length spans = omega (arith, has.there, length-map spans (list_in ps)) in
     let inside : IsSpan (length ps) s = subst (IsSpan (length ps)) (sym is) (All-get_or (IsSpan (length ps)) spans m s there packed.each) in
@@ -70,9 +64,6 @@ none_in ps spans all = All-map (λ list. list ≡ []) (list_in ps) spans (All-we
 -- one more empty list after the others
 pub packed_push : (b limit : ℕ) (spans new : List ListSpan) → new ≡ spans ++ record { begin = b; end = b } ∷ [] → b ≤ limit → ArePacked b spans → ArePacked limit new
 packed_push b limit spans new is more packed = grind (arith, common_steps, All-push, All-weaker, length-append, get_or-append_seam)
-
-pub none_push : (b : ℕ) (spans new : List ListSpan) → new ≡ spans ++ record { begin = b; end = b } ∷ [] → All (λ (s : ListSpan). s.begin ≡ s.end) spans → All (λ (s : ListSpan). s.begin ≡ s.end) new
-none_push b spans new is none = subst (All (λ (s : ListSpan). s.begin ≡ s.end)) (sym is) (All-push (λ (s : ListSpan). s.begin ≡ s.end) spans (record { begin = b; end = b }) none refl)
 
 -- a write outside of a list does not change it
 outside : (ps : List ℕ) (e v : ℕ) (s : ListSpan) → (s.end ≤ e) × (s.begin ≤ s.end) → list_in (set ps e v) s ≡ list_in ps s
@@ -110,28 +101,39 @@ module _ (ps : List ℕ) (spans : List ListSpan) (m v : ℕ) (s new : ListSpan) 
   longer = grind (arith, at_end, limit_within, here s, get_or-map (list_in ps) spans m s [] there)
 
   -- the lists are those with the position added
-  pub packed_more : map (list_in (set ps s.end v)) (set spans m new) ≡ with_added (map (list_in ps) spans) m v
+  packed_more : map (list_in (set ps s.end v)) (set spans m new) ≡ with_added (map (list_in ps) spans) m v
   packed_more =
       let f = list_in (set ps s.end v) in
       let lists = map (list_in ps) spans in
       let list = list_at lists m ++ v ∷ [] in
       map-set f spans m new ∙ ap (set (map f spans) m) longer
-      ∙ ext_get_or [] (set (map f spans) m list) (set lists m list) (omega (arith, length-map spans f, length-map spans (list_in ps), length-set (map f spans) m list, length-set lists m list)) (λ i low.
-      let inside : i < length spans = omega (arith, low, length-set (map f spans) m list, length-map spans f) in
-      elim (eqb_tells i m) [
-        | inl same ↦
-            let at : (xs : List (List ℕ)) → length xs ≡ length spans → get_or (set xs m list) i [] ≡ list = λ xs many. ap (λ k. get_or (set xs m list) k []) same.1 ∙ get_or-set_same xs m list [] (omega (arith, there, many)) in
-            at (map f spans) (length-map spans f) ∙ sym (at lists (length-map spans (list_in ps)))
-        | inr apart ↦
-            get_or-set_other (map f spans) m i list [] apart.1 ∙ get_or-map f spans i s [] inside ∙ other i apart.1 inside
-            ∙ sym (get_or-set_other lists m i list [] apart.1 ∙ get_or-map (list_in ps) spans i s [] inside)
-      ])
+      ∙ ext_get_or [] (set (map f spans) m list) (set lists m list) (omega (arith, length-map spans f, length-map spans (list_in ps), length-set (map f spans) m list, length-set lists m list))
+      (λ i low. grind (arith, eqb_tells i m, length-set, length-map, get_or-set_at, get_or-set_other, get_or-map f spans i s [], get_or-map (list_in ps) spans i s [], other i))
 
   -- a field in which the new span equals the old is unchanged in all spans
   kept : (f : ListSpan → ℕ) → f new ≡ f s → (i : ℕ) (d : ListSpan) → f (get_or (set spans m new) i d) ≡ f (get_or spans i d)
   kept f same i d = grind (arith, eqb_tells i m, get_or-set_same spans m new d there, here d, get_or-set_other)
 
   -- the lists still follow one another
-  pub packed_still : ArePacked (length (set ps s.end v)) (set spans m new)
+  packed_still : ArePacked (length (set ps s.end v)) (set spans m new)
   packed_still =
       grind (arith, common_steps, length-set, All-set, limit_within, All-weaker, kept, eqb_tells, get_or-set_same, limit_low, get_or-set_other)
+
+-- after a position is added to a list with spare capacity: its span ended within the positions, the spans still follow
+-- one another, the lists are those with the position added, and their capacities are unchanged
+pub record IsAdded (ps : List ℕ) (spans : List ListSpan) (m v : ℕ) (s new : ListSpan) : Type 0 where
+  pub within : s.end < length ps
+  pub packed : ArePacked (length (set ps s.end v)) (set spans m new)
+  pub lists : map (list_in (set ps s.end v)) (set spans m new) ≡ with_added (map (list_in ps) spans) m v
+  pub capacities : list_capacities (length (set ps s.end v)) (set spans m new) ≡ list_capacities (length ps) spans
+
+pub added : (ps : List ℕ) (spans : List ListSpan) (m v : ℕ) (s new : ListSpan) → ArePacked (length ps) spans → HasSpareCapacity (record { lists = map (list_in ps) spans; capacities = list_capacities (length ps) spans }) m → s ≡ get_or spans m s
+    → new.begin ≡ s.begin → new.end ≡ s.end + 1 → IsAdded ps spans m v s new
+added ps spans m v s new packed has is begin end =
+    let spare = spare_in ps spans m s packed has is in
+    record {
+      within = spare.2;
+      packed = packed_still ps spans m v s new packed spare.0 is spare.1 begin end;
+      lists = packed_more ps spans m v s new packed spare.0 is spare.1 begin end;
+      capacities = ap (λ n. list_capacities n (set spans m new)) (length-set ps s.end v) ∙ capacities_still (length ps) spans m new s spare.0 (begin ∙ ap (λ (x : ListSpan). x.begin) is);
+    }

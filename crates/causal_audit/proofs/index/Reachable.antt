@@ -1,5 +1,5 @@
 -- The processes that the events of each process reach, from the last entry to the first.
-use Rattle.causal_audit.proofs.Common.{ℕ, ◌≡◌, ◌+◌, ◌<◌, ◌≤◌, inl, inr, true, List, length, get_or, Some, refl, sym, subst, ◌∙◌, arith, ◌⊎◌, ◌==◌, ◌||◌, or_left, or_right, eq-eqb, get_or-set_same, get_or-set_other, Pid, Entry, Send, Deliver, Stable, Crash, Restart, Forget, entry_at, AreLegalEntries, DirectlyPrecedes, in_order, by_message, Reaches, itself, onward, reaches_begins, accepted_forward, nat_cmp, nat_cmp_total, FinSet, contains, insert, empty, union, contains-union}
+use Rattle.causal_audit.proofs.Common.{ℕ, ◌≡◌, ◌+◌, ◌<◌, ◌≤◌, inl, inr, true, List, length, get_or, Some, refl, sym, subst, ◌∙◌, arith, ◌⊎◌, ◌==◌, ◌||◌, or_left, or_right, eq-eqb, get_or-set_same, get_or-set_other, Pid, Entry, Send, entry_at, AreLegalEntries, DirectlyPrecedes, in_order, by_message, Reaches, itself, onward, reaches_begins, accepted_forward, nat_cmp, nat_cmp_total, FinSet, contains, insert, empty, union, contains-union}
 use Rattle.causal_audit.specs.Inside.Index.Reachability.{reachable_from, with_reached}
 use Rattle.causal_audit.specs.Inside.Index.Departures.{process_at}
 use Rattle.causal_audit.proofs.Legal.{receiver_event}
@@ -50,11 +50,7 @@ HasSender sets e = (from to : Pid) (ssn : ℕ) → e ≡ Send from to ssn → fr
 
 grown : (sets : List (FinSet nat_cmp)) (e : Entry) → HasSender sets e → (p q : ℕ) → contains (reachable_from sets p) q ≡ true → contains (reachable_from (with_reached sets e) p) q ≡ true
 grown sets (Send from to ssn) bound p q has = grown_one sets from to ssn (bound from to ssn refl) p q has
-grown sets (Deliver to send rsn listed) bound p q has = has
-grown sets (Stable det) bound p q has = has
-grown sets (Crash who) bound p q has = has
-grown sets (Restart who listed) bound p q has = has
-grown sets (Forget who listed) bound p q has = has
+grown sets _ bound p q has = has
 
 -- ---- from the last entry to the first
 
@@ -78,14 +74,11 @@ module _ (n : ℕ) (past : List Entry) (formed : AreLegalEntries n past) (t : �
       let message = delivered n past formed m t h in
       let d = message.0 in
       let to = message.1 in
-      let both : Some e ≡ Some (Send d.source to d.ssn) = sym at ∙ message.3 in
-      let is : e ≡ Send d.source to d.ssn = cc both in
+      let is : e ≡ Send d.source to d.ssn = let both : Some e ≡ Some (Send d.source to d.ssn) = sym at ∙ message.3 in cc both in
       let into : process_at past m ≡ to.0 = det_process past m d message.2 ∙ sym message.4 in
       let has : contains (reachable_from sets to.0) (process_at past j) ≡ true =
       subst (λ x. contains (reachable_from sets x) (process_at past j) ≡ true) into (before m j (omega (arith, accepted_forward n past formed m t h)) r) in
-      subst (λ p. Knows p j) (sym (process_is past t (Send d.source to d.ssn) message.3))
-      (subst (λ x. contains (reachable_from (with_reached sets x) d.source.0) (process_at past j) ≡ true) (sym is)
-      (joined sets d.source to d.ssn (bound d.source to d.ssn is) (process_at past j) (or_right (contains (reachable_from sets d.source.0) (process_at past j)) (contains (reachable_from sets to.0) (process_at past j)) has)))
+      grind (arith, process_is past t (Send d.source to d.ssn) message.3, is, joined sets d.source to d.ssn (bound d.source to d.ssn is), or_right)
 
   reaches_now : (j : ℕ) → Reaches past t j → Knows (process_at past t) j
   reaches_now j r =

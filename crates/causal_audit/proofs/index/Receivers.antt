@@ -1,8 +1,10 @@
 -- When the effect of a delivery leaves its receiver, and what this implies for its orphans.
-use Rattle.causal_audit.proofs.Common.{ℕ, ◌≡◌, ◌<◌, ◌≤◌, inl, inr, true, false, List, [], ◌∷◌, length, Some, None, refl, sym, ap, subst, ◌∙◌, arith, get_or, delivers_sent, sent_within, message_sent, option_and_then, ◌+◌, ◌⊎◌, ◌==◌, slice_set, option_map, option_map_or, cases_lt, false≢true, eqb-true, eq-eqb, or_from, cond-true, cond-false, ne_eqb, false_from_ne_true, or_right, Pid, Det, Entry, Send, Deliver, Stable, Crash, Restart, Forget, instant, is_down, is_send_to, logs, lane, det_at, det_of, det_from, entry_at, AreLegalEntries, actor, IsEventOf, Delivers, DirectlyPrecedes, in_order, by_message, Reaches, itself, onward, is_delivery_of, accepted_forward, event_below, event_lane, instant_length, det_then, HasOrphan, length-set, get_or-set_other}
+use Rattle.causal_audit.proofs.Common.{ℕ, ◌≡◌, ◌<◌, ◌≤◌, inl, inr, true, false, List, [], ◌∷◌, length, Some, None, refl, sym, ap, subst, ◌∙◌, arith, get_or, delivers_sent, message_sent, option_and_then, ◌+◌, ◌⊎◌, ◌==◌, slice_set, option_map, option_map_or, cases_lt, false≢true, eqb-true, eq-eqb, or_from, cond-true, cond-false, false_from_ne_true, or_right, Pid, Det, Entry, Send, Deliver, Crash, Restart, instant, is_down, is_send_to, logs, lane, det_at, det_of, det_from, entry_at, AreLegalEntries, Depends, actor, IsEventOf, Delivers, DirectlyPrecedes, in_order, by_message, Reaches, itself, onward, is_delivery_of, accepted_forward, event_below, event_lane, instant_length, det_then, HasOrphan, length-set, get_or-set_other}
 use Rattle.causal_audit.specs.Laws.{down_or_holding}
 use Rattle.causal_audit.specs.Covered.{LocalHasNoOtherDependents, CoveredHasNoOrphan, StaysLocalUntil, CrashedHasNoDependents}
-use Rattle.causal_trace.proofs.Lemmas.DependenceSteps.{event_once, delivers_below}
+use Rattle.causal_trace.proofs.Lemmas.DependenceSteps.{event_once, delivers_below, precedes_before}
+use Rattle.causal_trace.proofs.Lemmas.Instants.{det_more}
+use Rattle.causal_audit.proofs.Steps.{entry_within}
 use Rattle.causal_audit.proofs.Lemmas.OrphansByCounts.{exposed}
 use Rattle.causal_audit.proofs.Legal.{delivery_event, sent_is}
 use Rattle.causal_audit.proofs.NoOrphanSoFar.{not_yet}
@@ -23,14 +25,10 @@ use Rattle.std.proofs.lemmas.Grind.{get_or-set_at, common_steps}
 abbrev Left : List Entry → ℕ → ℕ → ℕ → ℕ → Type 0
 Left past i p l v = (s : ℕ) × (j : ℕ) × (i ≤ s) × IsEventOf past s p l × Delivers past j s × (j ≤ v)
 
-precedes_less : (n : ℕ) (past : List Entry) → AreLegalEntries n past → (i j : ℕ) → DirectlyPrecedes past i j → i < j
-precedes_less n past formed i j (in_order p l less a b) = less
-precedes_less n past formed i j (by_message h) = accepted_forward n past formed j i h
-
 -- an event reaches only itself and later events
 pub reach_later : (n : ℕ) (past : List Entry) → AreLegalEntries n past → (i j : ℕ) → Reaches past i j → i ≤ j
 reach_later n past formed i j (itself p l at) = omega arith
-reach_later n past formed i k (onward {j} r direct) = omega (arith, reach_later n past formed i j r, precedes_less n past formed j k direct)
+reach_later n past formed i k (onward {j} r direct) = omega (arith, reach_later n past formed i j r, precedes_before past j k (accepted_forward n past formed) direct)
 
 module _ (n : ℕ) (past : List Entry) (formed : AreLegalEntries n past) (i p l : ℕ) (of : IsEventOf past i p l) where
   next_stays : (j v : ℕ) → i ≤ j → IsEventOf past j p l → DirectlyPrecedes past j v → IsEventOf past v p l ⊎ Left past i p l v
@@ -42,35 +40,33 @@ module _ (n : ℕ) (past : List Entry) (formed : AreLegalEntries n past) (i p l 
   stays_or_left v (onward {j} r direct) =
       elim (stays_or_left j r) [
         | inl here ↦ next_stays j v (reach_later n past formed i j r) here direct
-        | inr left ↦ inr (left.0, left.1, left.2, left.3, left.4, omega (arith, left.5, precedes_less n past formed j v direct))
+        | inr left ↦ inr (left.0, left.1, left.2, left.3, left.4, omega (arith, left.5, precedes_before past j v (accepted_forward n past formed) direct))
       ]
 
 -- ---- the receiver of a delivery is the process of its event
 
 receiver_named : (past : List Entry) (e : Entry) (d : Det) (p : ℕ) → det_of past e ≡ Some d → actor e ≡ Some p → p ≡ d.dest.0
-receiver_named past (Send from to ssn) d p h of = absurd (let k : None ≡ Some d = h in cc)
 receiver_named past (Deliver to send rsn listed) d p h of = grind arith
-receiver_named past (Stable det) d p h of = absurd (let k : None ≡ Some d = h in cc)
-receiver_named past (Crash who) d p h of = absurd (let k : None ≡ Some d = h in cc)
-receiver_named past (Restart who listed) d p h of = absurd (let k : None ≡ Some d = h in cc)
-receiver_named past (Forget who listed) d p h of = absurd (let k : None ≡ Some d = h in cc)
+receiver_named past _ d p h of = absurd (let k : None ≡ Some d = h in cc)
 
 receiver_is : (past : List Entry) (k : ℕ) (d : Det) (p l : ℕ) → det_at past k ≡ Some d → IsEventOf past k p l → p ≡ d.dest.0
 receiver_is [] k d p l h of = absurd of
-receiver_is (e ∷ past) k d p l h (inl old) =
-    receiver_is past k d p l (sym (cond-false (k == length past) (det_of past e) (det_at past k) (ne_eqb k (length past) (λ is. omega (arith, is, event_below past k p l old)))) ∙ h) old
+receiver_is (e ∷ past) k d p l h (inl old) = receiver_is past k d p l (sym (det_more e past k (event_below past k p l old)) ∙ h) old
 receiver_is (e ∷ past) k d p l h (inr new) = receiver_named past e d p (sym (cond-true (k == length past) (det_of past e) (det_at past k) (eq-eqb k (length past) new.0)) ∙ h) new.1
 
 -- ---- until then only the receiver depends on it
 
+-- a dependent's event is of the delivery's lane
+local : (past : List Entry) (k spread u q p l : ℕ) → IsEventOf past k p l → StaysLocalUntil past k spread → u ≤ spread → u ≤ length past → Depends (instant past u) k q → (q ≡ p) × (lane (instant past u) q ≡ l)
+local past k spread u q p l of departures low within depends =
+    let early : depends.event < u = omega (arith, event_below (instant past u) depends.event q (lane (instant past u) q) depends.present, instant_length past u within) in
+    event_once past depends.event q (lane (instant past u) q) p l (event_whole past u depends.event q (lane (instant past u) q) depends.present)
+    (departures depends.event p l (omega (arith, early, low)) of (reaches_whole past u k depends.event depends.reached))
+
 pub alone : LocalHasNoOtherDependents
 alone n past k d spread u q formed at departures low within depends =
     let from = delivery_event past k d at in
-    let early : depends.event < u = omega (arith, event_below (instant past u) depends.event q (lane (instant past u) q) depends.present, instant_length past u within) in
-    let reach = reaches_whole past u k depends.event depends.reached in
-    let own : IsEventOf past depends.event from.0 from.1 = departures depends.event from.0 from.1 (omega (arith, early, low)) from.2 reach in
-    let here : IsEventOf past depends.event q (lane (instant past u) q) = event_whole past u depends.event q (lane (instant past u) q) depends.present in
-    (event_once past depends.event q (lane (instant past u) q) from.0 from.1 here own).0 ∙ receiver_is past k d from.0 from.1 at from.2
+    (local past k spread u q from.0 from.1 from.2 departures low within depends).0 ∙ receiver_is past k d from.0 from.1 at from.2
 
 -- ---- a covered delivery has no orphan
 
@@ -81,13 +77,7 @@ covered n f past k d spread u formed at departures within (inr more) has =
       | inr ahead ↦ not_yet n f (instant past u) k (omega (arith, ahead, instant_length past u within)) has
       | inl made ↦
           let e = exposed n f (instant past u) k d (det_then past u k made within ∙ at) has in
-          elim more [
-            | inl many ↦ omega (arith, many, e.few)
-            | inr held ↦
-                let one : e.orphan ≡ d.dest.0 = alone n past k d spread u e.orphan formed at departures held.0 within e.depends in
-                let none : down_or_holding (instant past u) d e.orphan ≡ false = or_from (is_down (instant past u) e.orphan) (logs (instant past u) e.orphan d) e.depends.up e.without in
-                false≢true (sym none ∙ ap (down_or_holding (instant past u) d) one ∙ held.1)
-          ]
+          grind (arith, e.few, alone n past k d spread u e.orphan formed at departures, or_from (is_down (instant past u) e.orphan) (logs (instant past u) e.orphan d) e.depends.up e.without, e.depends)
     ]
 
 -- ==== the process of each entry, and when the effect of a delivery leaves it
@@ -95,20 +85,20 @@ covered n f past k d spread u formed at departures within (inr more) has =
 acting_is : (e : Entry) (p : ℕ) → actor e ≡ Some p → event_process e ≡ p
 acting_is (Send from to ssn) p is = cc
 acting_is (Deliver to send rsn listed) p is = cc
-acting_is (Stable det) p is = absurd (let k : None ≡ Some p = is in cc)
-acting_is (Crash who) p is = absurd (let k : None ≡ Some p = is in cc)
-acting_is (Restart who listed) p is = absurd (let k : None ≡ Some p = is in cc)
-acting_is (Forget who listed) p is = absurd (let k : None ≡ Some p = is in cc)
+acting_is _ p is = absurd (let k : None ≡ Some p = is in cc)
 
-process_older : (e : Entry) (past : List Entry) (i : ℕ) → i < length past → process_at (e ∷ past) i ≡ process_at past i
-process_older e past i below = ap (λ o. option_map_or event_process o 0) (cond-false (i == length past) (Some e) (entry_at past i) (ne_eqb i (length past) (λ is. omega (arith, is, below))))
+-- the newest entry of the longer past, and an older entry
+pub newest_entry : (e : Entry) (past : List Entry) (v : ℕ) → v ≡ length past → entry_at (e ∷ past) v ≡ Some e
+newest_entry e past v is = cond-true (v == length past) (Some e) (entry_at past v) (eq-eqb v (length past) is)
+
+pub older_entry : (e : Entry) (past : List Entry) (v : ℕ) (x : Entry) → entry_at past v ≡ Some x → entry_at (e ∷ past) v ≡ Some x
+older_entry e past v x at = grind (arith, cond-false, entry_within past v x at)
 
 -- an event is an entry of its process
 pub process_of_event : (past : List Entry) (i p l : ℕ) → IsEventOf past i p l → process_at past i ≡ p
 process_of_event [] i p l of = absurd of
-process_of_event (e ∷ past) i p l (inl old) =
-    process_older e past i (event_below past i p l old) ∙ process_of_event past i p l old
-process_of_event (e ∷ past) i p l (inr new) = ap (λ o. option_map_or event_process o 0) (cond-true (i == length past) (Some e) (entry_at past i) (eq-eqb i (length past) new.0)) ∙ acting_is e p new.1
+process_of_event (e ∷ past) i p l (inl old) = grind (arith, cond-false, event_below past i p l old, process_of_event past i p l old)
+process_of_event (e ∷ past) i p l (inr new) = grind (arith, cond-true, acting_is e p new.1)
 
 -- the process of a position is that of the entry there
 pub process_is : (past : List Entry) (i : ℕ) (e : Entry) → entry_at past i ≡ Some e → process_at past i ≡ event_process e
@@ -119,14 +109,7 @@ pub delivered : (n : ℕ) (past : List Entry) → AreLegalEntries n past → (v 
 delivered n [] formed v s h = absurd h
 delivered n (e ∷ past) formed v s (inl old) =
     let was = delivered n past formed.0 v s old in
-    let below = delivers_below past v s old in
-    let sent = accepted_forward n past formed.0 v s old in (
-      was.0,
-      was.1,
-      cond-false (v == length past) (det_of past e) (det_at past v) (ne_eqb v (length past) (λ is. omega (arith, is, below))) ∙ was.2,
-      cond-false (s == length past) (Some e) (entry_at past s) (ne_eqb s (length past) (λ is. omega (arith, is, sent, below))) ∙ was.3,
-      was.4,
-    )
+    (was.0, was.1, det_more e past v (delivers_below past v s old) ∙ was.2, older_entry e past s _ was.3, was.4)
 delivered n (Deliver to send rsn listed ∷ past) formed v s (inr new) =
     let e = Deliver to send rsn listed in
     let legal = delivers_sent n past to send rsn listed formed.1 in
@@ -136,15 +119,10 @@ delivered n (Deliver to send rsn listed ∷ past) formed v s (inr new) =
       sent.1,
       cond-true (v == length past) (det_of past e) (det_at past v) (eq-eqb v (length past) new.0)
           ∙ ap (λ o. option_map (det_from to rsn) (option_and_then message_sent o)) sent.3,
-      cond-false (s == length past) (Some e) (entry_at past s) (ne_eqb s (length past) (λ is. omega (arith, is, same, sent_within past send to.0 legal)))
-          ∙ ap (entry_at past) (sym same) ∙ sent.3,
+      older_entry e past s _ (ap (entry_at past) (sym same) ∙ sent.3),
       eqb-true sent.1.0 to.0 (subst (λ o. option_map_or (is_send_to to.0) o false ≡ true) sent.3 legal),
     )
-delivered n (Send from to ssn ∷ past) formed v s (inr new) = absurd (false≢true new.1)
-delivered n (Stable det ∷ past) formed v s (inr new) = absurd (false≢true new.1)
-delivered n (Crash who ∷ past) formed v s (inr new) = absurd (false≢true new.1)
-delivered n (Restart who listed ∷ past) formed v s (inr new) = absurd (false≢true new.1)
-delivered n (Forget who listed ∷ past) formed v s (inr new) = absurd (false≢true new.1)
+delivered n (_ ∷ past) formed v s (inr new) = absurd (false≢true new.1)
 
 -- its receiver is the process of the delivery
 pub det_process : (past : List Entry) (k : ℕ) (d : Det) → det_at past k ≡ Some d → process_at past k ≡ d.dest.0
@@ -161,22 +139,17 @@ abbrev Fell : ℕ → ℕ → List Entry → Type 0
 Fell p l past = ((is_down past p ≡ true) × (l ≤ lane past p)) ⊎ (l < lane past p)
 
 fell_more : (e : Entry) (past : List Entry) (p l : ℕ) → Fell p l past → Fell p l (e ∷ past)
-fell_more (Send from to ssn) past p l h = h
-fell_more (Deliver to send rsn listed) past p l h = h
-fell_more (Stable det) past p l h = h
 fell_more (Crash who) past p l (inl h) = inl (or_right (who.0 == p) (is_down past p) h.0, h.1)
 fell_more (Crash who) past p l (inr h) = inr h
 fell_more (Restart who listed) past p l h = grind arith
-fell_more (Forget who listed) past p l h = h
+fell_more _ past p l h = h
 
 -- no process depends on such a delivery
 pub crashed : CrashedHasNoDependents
-crashed n past k d spread c u q formed at departures crash after before low within depends = let then = instant past (c + 1) in
+crashed n past k d spread c u q formed at departures crash after before low within depends =
+    let then = instant past (c + 1) in
     let from = delivery_event then k d (det_then past (c + 1) k (omega (arith, after)) (omega (arith, before, within)) ∙ at) in
-    let early : depends.event < u = omega (arith, event_below (instant past u) depends.event q (lane (instant past u) q) depends.present, instant_length past u within) in
-    let own : IsEventOf past depends.event from.0 from.1 = grind (arith, event_whole, reaches_whole) in
-    let here : IsEventOf past depends.event q (lane (instant past u) q) = event_whole past u depends.event q (lane (instant past u) q) depends.present in
-    let same = event_once past depends.event q (lane (instant past u) q) from.0 from.1 here own in
+    let same = local past k spread u q from.0 from.1 (event_whole past (c + 1) k from.0 from.1 from.2) departures low within depends in
     let who : crash.0.0 ≡ q = crash.2 ∙ sym (alone n past k d spread u q formed at departures low within depends) in
     let down : is_down then q ≡ true = grind (arith, entry_then, eq-eqb) in
     let lane_low : from.1 ≤ lane then q = subst (λ x. from.1 ≤ lane then x) (sym same.0) (event_lane then k from.0 from.1 from.2) in
@@ -192,25 +165,16 @@ crashed n past k d spread c u q formed at departures crash after before low with
 module _ (n most : ℕ) (past : List Entry) (formed : AreLegalEntries n past) (k : ℕ) (d : Det) (at : det_at past k ≡ Some d) (spread : ℕ) (departures : StaysLocalUntil past k spread) (u : ℕ) (within : u ≤ length past) (has : HasOrphan n most (instant past u) k) where
   -- the delivery is in the past
   pub orphan_made : k < u
-  orphan_made =
-      elim (cases_lt k u) [
-        | inl made ↦ made
-        | inr coming ↦ absurd (not_yet n most (instant past u) k (omega (arith, coming, instant_length past u within)) has)
-      ]
+  orphan_made = grind (arith, cases_lt, not_yet n most (instant past u) k, instant_length past u within, has)
 
   pub orphan_thin : IsAtRiskAt n most past d u
-  orphan_thin = let e = exposed n most (instant past u) k d (det_then past u k orphan_made within ∙ at) has in
+  orphan_thin =
+      let e = exposed n most (instant past u) k d (det_then past u k orphan_made within ∙ at) has in
+      let event = event_whole past u e.depends.event e.orphan (lane (instant past u) e.orphan) e.depends.present in
       record {
         unstable = e.unstable;
         few = e.few;
-        left_over =
-            grind (
-              arith,
-              det_process past k d at,
-              reaches_whole past u k e.depends.event e.depends.reached,
-              process_of_event past e.depends.event e.orphan (lane (instant past u) e.orphan) (event_whole past u e.depends.event e.orphan (lane (instant past u) e.orphan) e.depends.present),
-              event_whole past u e.depends.event e.orphan (lane (instant past u) e.orphan) e.depends.present,
-            );
+        left_over = grind (arith, det_process past k d at, reaches_whole past u k e.depends.event e.depends.reached, process_of_event past e.depends.event e.orphan _ event, event);
       }
 
   -- while its effect stays with the receiver, the determinant is at risk without the receiver
@@ -222,11 +186,7 @@ module _ (n most : ℕ) (past : List Entry) (formed : AreLegalEntries n past) (k
 
   -- and the receiver has not crashed since
   pub orphan_alive : u ≤ spread → (end c : ℕ) → u ≤ end → IsFirstCrash past d.dest.0 k end c → u ≤ c
-  orphan_alive low end c bound first =
-      elim (cases_lt c u) [
-        | inl after ↦ absurd (crashed n past k d spread c u has.orphan formed at departures (first.found (omega (arith, after, bound))) first.after after low within has.is_orphan.depends)
-        | inr before ↦ before
-      ]
+  orphan_alive low end c bound first = grind (arith, cases_lt, crashed n past k d spread c u has.orphan formed at departures, first.found, first.after)
 
   -- so by the scan's result the delivery may be uncovered
   pub orphan_open : (end c : ℕ) (at_risk : AtRiskIntervals) → u ≤ end → IsFirstCrash past d.dest.0 k end c → at_risk.from ≤ k → AreAtRiskIntervals n most past d (end + 1) at_risk → MayBeOpen at_risk k spread c u
@@ -256,29 +216,17 @@ delivers_entry (x ∷ past) j s e at (inr new) = grind arith
 
 -- the value of a slot is then the position, or unchanged
 noted_cases : (e : Entry) (i : ℕ) (list : List ℕ) (s : ℕ) → s < length list → (get_or (with_delivered e i list) s 0 ≡ i) ⊎ (get_or (with_delivered e i list) s 0 ≡ get_or list s 0)
-noted_cases (Send from to ssn) i list s there = inr refl
 noted_cases (Deliver to send rsn listed) i list s there = grind (arith, get_or-set_at, get_or-set_other)
-noted_cases (Stable det) i list s there = inr refl
-noted_cases (Crash who) i list s there = inr refl
-noted_cases (Restart who listed) i list s there = inr refl
-noted_cases (Forget who listed) i list s there = inr refl
+noted_cases _ i list s there = inr refl
 
 noted_here : (e : Entry) (i : ℕ) (list : List ℕ) (s : ℕ) → is_delivery_of s e ≡ true → s < length list → get_or (with_delivered e i list) s 0 ≡ i
-noted_here (Send from to ssn) i list s is there = absurd (false≢true is)
 noted_here (Deliver to send rsn listed) i list s is there = get_or-set_at list send s i 0 (sym (eqb-true send s is)) (omega (arith, eqb-true send s is, there))
-noted_here (Stable det) i list s is there = absurd (false≢true is)
-noted_here (Crash who) i list s is there = absurd (false≢true is)
-noted_here (Restart who listed) i list s is there = absurd (false≢true is)
-noted_here (Forget who listed) i list s is there = absurd (false≢true is)
+noted_here _ i list s is there = absurd (false≢true is)
 
 -- the write does not change the length
 pub noted_length : (e : Entry) (i : ℕ) (list : List ℕ) → length (with_delivered e i list) ≡ length list
-noted_length (Send from to ssn) i list = refl
 noted_length (Deliver to send rsn listed) i list = length-set list send i
-noted_length (Stable det) i list = refl
-noted_length (Crash who) i list = refl
-noted_length (Restart who listed) i list = refl
-noted_length (Forget who listed) i list = refl
+noted_length _ i list = refl
 
 -- ---- from the last entry to the first
 

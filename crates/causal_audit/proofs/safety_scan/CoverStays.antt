@@ -1,14 +1,15 @@
 -- Until when a process remains down or a holder of a determinant, and the determinant's safety until then.
-use Rattle.causal_audit.proofs.Common.{ℕ, ◌≡◌, ◌+◌, ◌<◌, ◌≤◌, inl, inr, Bool, true, false, List, [], ◌∷◌, length, refl, sym, ap, subst, ◌∙◌, arith, Some, None, ◌||◌, ◌&&◌, ◌==◌, not, ◌↔◌, Contains, cases_lt, false≢true, false_from_ne_true, ne_eqb, eqb-true, or_cases, and_parts, or_right, eq-eqb, Det, same_det, count_below, count_below-within, members_counted, Entry, Send, Deliver, Stable, Crash, Restart, Forget, instant, is_down, is_stable, logs, list_has, entry_at, instant_length, det_then, accepted_then, nat_cmp_total, nat_cmp, FinSet, contains, difference, contains-difference, union, len, contains-union, Pid, AreLegalEntries, delivers_up, eqb_tells, nat_tests}
+use Rattle.causal_audit.proofs.Common.{ℕ, ◌≡◌, ◌+◌, ◌<◌, ◌≤◌, inl, inr, Bool, true, false, List, [], ◌∷◌, length, refl, sym, subst, ◌∙◌, arith, Some, None, ◌||◌, ◌&&◌, ◌==◌, not, ◌↔◌, Contains, cases_lt, false≢true, Det, count_below, count_below-within, members_counted, Entry, instant, is_down, is_stable, logs, list_has, entry_at, instant_length, det_then, accepted_then, nat_cmp_total, nat_cmp, FinSet, contains, difference, contains-difference, union, len, contains-union, AreLegalEntries, first_fault, delivers_up, nat_tests}
 use Rattle.causal_audit.specs.Laws.{down_or_holding}
 use Rattle.causal_audit.specs.Inside.SafetyScan.Scans.{AreWatched, IsAtRiskAt, RulesOut, IsSafetyOf}
 use Rattle.causal_audit.specs.NoRelease.{may_release, NoneReleasedFrom, RemainsSafe, OrphansEnd}
-use Rattle.causal_audit.proofs.Lemmas.OrphansByCounts.{exposed}
+use Rattle.causal_audit.proofs.Lemmas.OrphansByCounts.{exposed, unexposed}
 use Rattle.causal_audit.proofs.NoOrphanSoFar.{not_yet}
 use Rattle.causal_trace.specs.Past.{mentioned_dets}
+use Rattle.causal_audit.specs.Quiet.{SameDeliveryState, InstantsAgree, OrphansAgree}
 use Rattle.causal_audit.specs.Inside.SafetyScan.Persistence.{restarts_one, DownOrHoldingPersists, HoldersPersist, MentionsNone, RestartsNone}
 use Rattle.causal_audit.proofs.by_clock.Begun.{onward_to}
-use Rattle.causal_audit.proofs.Between.{logs_stay, next_entry}
+use Rattle.causal_audit.proofs.Between.{agree_back, agree_then, exposed_agrees, next_entry, quiet_step}
 use Rattle.causal_audit.specs.Inside.PositionLists.{HasNoneUntil, AreMentionsOf, HasMentions}
 use Rattle.std.specs.FinSet.{is_subset-contains}
 use Rattle.causal_audit.specs.Inside.Index.Reachability.{HasReached}
@@ -24,28 +25,12 @@ use Rattle.causal_audit.proofs.Steps.{entry_cases}
 -- ---- a stable determinant remains stable
 
 pub stable_more : (e : Entry) (past : List Entry) (d : Det) → is_stable past d ≡ true → is_stable (e ∷ past) d ≡ true
-stable_more (Send from to ssn) past d h = h
-stable_more (Deliver to send rsn listed) past d h = h
-stable_more (Stable det) past d h = or_right (same_det d det) (is_stable past d) h
-stable_more (Crash who) past d h = h
-stable_more (Restart who listed) past d h = h
-stable_more (Forget who listed) past d h = h
+stable_more e past d h = grind (arith, nat_tests)
 
 -- ---- a process remains down or a holder if none is released
 
-or_between : (a b c : Bool) → (a || b) ≡ true → (a || (c || b)) ≡ true
-or_between a b c h = grind (arith, nat_tests)
-
-or_turned : (w a b : Bool) → (a || b) ≡ true → ((w || a) || (not w && b)) ≡ true
-or_turned w a b h = grind (arith, nat_tests)
-
 pub gone_more : (e : Entry) (past : List Entry) (d : Det) (p : ℕ) → may_release e ≡ false → down_or_holding past d p ≡ true → down_or_holding (e ∷ past) d p ≡ true
-gone_more (Send from to ssn) past d p departures h = h
-gone_more (Deliver to send rsn listed) past d p departures h = or_between (is_down past p) (logs past p d) (to.0 == p && list_has listed d) h
-gone_more (Stable det) past d p departures h = h
-gone_more (Crash who) past d p departures h = or_turned (who.0 == p) (is_down past p) (logs past p d) h
-gone_more (Restart who listed) past d p departures h = absurd (false≢true (sym departures))
-gone_more (Forget who listed) past d p departures h = absurd (false≢true (sym departures))
+gone_more e past d p departures h = grind (arith, nat_tests)
 
 none_releases : (past : List Entry) (t : ℕ) → NoneReleasedFrom past t → (v : ℕ) (e : Entry) → t ≤ v → entry_at past v ≡ Some e → may_release e ≡ false
 none_releases [] t none v e late at = absurd (let x : None ≡ Some e = at in cc)
@@ -66,12 +51,7 @@ over_then n f past d t u (inr many) up within unstable few = grind (arith, few, 
 -- so no delivery with such a determinant has an orphan at a later instant
 pub orphans_end : OrphansEnd
 orphans_end n f past k d t u at over up within list_has =
-    elim (cases_lt k u) [
-      | inr ahead ↦ not_yet n f (instant past u) k (omega (arith, ahead, instant_length past u within)) list_has
-      | inl made ↦
-          let e = exposed n f (instant past u) k d (det_then past u k made within ∙ at) list_has in
-          over_then n f past d t u over up within e.unstable e.few
-    ]
+    grind (arith, cases_lt k u, not_yet n f (instant past u) k, instant_length past u within, det_then past u k, exposed n f (instant past u) k d, over_then n f past d t u over up within, list_has)
 
 -- ---- the position from which no process is released
 
@@ -89,17 +69,8 @@ none_later (e ∷ past) t u up none = (none_later past t u up none.0, λ late. n
 
 -- ---- the processes that are down or hold it
 
--- a process that restarts is not among the others
-restarts_other : (members : FinSet nat_cmp) (who : Pid) (p : ℕ) → contains members who.0 ≡ false → contains members p ≡ true → (who.0 == p) ≡ false
-restarts_other members who p out inside = ne_eqb who.0 p (λ same. false≢true (sym out ∙ ap (contains members) same ∙ inside))
-
 gone_next : (e : Entry) (past : List Entry) (d : Det) (members : FinSet nat_cmp) (p : ℕ) → list_has (mentioned_dets e) d ≡ false → restarts_one members e ≡ false → contains members p ≡ true → down_or_holding past d p ≡ true → down_or_holding (e ∷ past) d p ≡ true
-gone_next (Send from to ssn) past d members p none out inside h = h
-gone_next (Deliver to send rsn listed) past d members p none out inside h = gone_more (Deliver to send rsn listed) past d p refl h
-gone_next (Stable det) past d members p none out inside h = h
-gone_next (Crash who) past d members p none out inside h = gone_more (Crash who) past d p refl h
-gone_next (Restart who listed) past d members p none out inside h = ap (λ b. (not b && is_down past p) || ((b && list_has listed d) || logs past p d)) (restarts_other members who p out inside) ∙ h
-gone_next (Forget who listed) past d members p none out inside h = ap (λ b. is_down past p || b) (sym (logs_stay (Forget who listed) past d refl none p)) ∙ h
+gone_next e past d members p none out inside h = grind (arith, nat_tests)
 
 pub gone_stay : DownOrHoldingPersists
 gone_stay past d members t u p up within unmentioned unrestarted inside here =
@@ -108,37 +79,20 @@ gone_stay past d members t u p up within unmentioned unrestarted inside here =
 
 -- ---- the processes that hold it
 
+up_holder : (n : ℕ) (e : Entry) (past : List Entry) (d : Det) (p : ℕ) → first_fault n past e ≡ None → (logs past p d ≡ true → is_down past p ≡ false) → logs (e ∷ past) p d ≡ true → is_down (e ∷ past) p ≡ false
+up_holder n e past d p legal before h = grind (arith, delivers_up n past, nat_tests)
+
 -- a process that holds a determinant is up
 pub holder_up : (n : ℕ) (past : List Entry) (d : Det) (p : ℕ) → AreLegalEntries n past → logs past p d ≡ true → is_down past p ≡ false
 holder_up n [] d p formed h = refl
-holder_up n (Send from to ssn ∷ past) d p formed h = holder_up n past d p formed.0 h
-holder_up n (Deliver to send rsn listed ∷ past) d p formed h =
-    elim (or_cases (to.0 == p && list_has listed d) (logs past p d) h) [
-      | inl new ↦ subst (λ q. is_down past q ≡ false) (eqb-true to.0 p (and_parts (to.0 == p) (list_has listed d) new).0) (delivers_up n past to send rsn listed formed.1)
-      | inr old ↦ holder_up n past d p formed.0 old
-    ]
-holder_up n (Stable det ∷ past) d p formed h = holder_up n past d p formed.0 h
-holder_up n (Crash who ∷ past) d p formed h = grind (arith, holder_up n past d p formed.0 (and_parts (not (who.0 == p)) (logs past p d) h).1)
-holder_up n (Restart who listed ∷ past) d p formed h = grind (arith, holder_up n past d p formed.0)
-holder_up n (Forget who listed ∷ past) d p formed h = holder_up n past d p formed.0 (and_parts (not (who.0 == p && list_has listed d)) (logs past p d) h).1
+holder_up n (e ∷ past) d p formed h = up_holder n e past d p formed.1 (holder_up n past d p formed.0) h
 
 pub up_held : (held down : Bool) → (held ≡ true → down ≡ false) → held ≡ (held && not down)
 up_held held down h = grind (arith, nat_tests)
 
-crash_held : (w was down held : Bool) → held ≡ (was && not down) → (not w && held) ≡ (was && not (w || down))
-crash_held w was down held h = grind (arith, nat_tests)
-
-restart_held : (w listed was down held : Bool) → listed ≡ false → (w ≡ true → was ≡ false) → held ≡ (was && not down) → ((w && listed) || held) ≡ (was && not (not w && down))
-restart_held w listed was down held none out h = grind (arith, nat_tests)
-
 held_next : (e : Entry) (past : List Entry) (d : Det) (members : FinSet nat_cmp) (p : ℕ) (was : Bool) → list_has (mentioned_dets e) d ≡ false → restarts_one members e ≡ false → (was ≡ true → contains members p ≡ true)
     → logs past p d ≡ (was && not (is_down past p)) → logs (e ∷ past) p d ≡ (was && not (is_down (e ∷ past) p))
-held_next (Send from to ssn) past d members p was none out inside h = h
-held_next (Deliver to send rsn listed) past d members p was none out inside h = sym (logs_stay (Deliver to send rsn listed) past d refl none p) ∙ h
-held_next (Stable det) past d members p was none out inside h = h
-held_next (Crash who) past d members p was none out inside h = crash_held (who.0 == p) was (is_down past p) (logs past p d) h
-held_next (Restart who listed) past d members p was none out inside h = grind (arith, restart_held, eqb-true)
-held_next (Forget who listed) past d members p was none out inside h = sym (logs_stay (Forget who listed) past d refl none p) ∙ h
+held_next e past d members p was none out inside h = grind (arith, nat_tests)
 
 pub holders_stay : HoldersPersist
 holders_stay n past d members t u p formed up within unmentioned unrestarted inside =
@@ -154,39 +108,38 @@ difference_shown s t p held down h k = contains-difference nat_cmp_total s t p �
 pub entry_then : (past : List Entry) (v : ℕ) (e : Entry) → v < length past → entry_at past v ≡ Some e → instant past (v + 1) ≡ e ∷ instant past v
 entry_then past v e below at = grind (arith, next_entry past v below)
 
+-- two instants agree if each entry between them is quiet
+pub instants_agree : InstantsAgree
+instants_agree n past k d t u formed up within quiet =
+    onward_to (λ x. SameDeliveryState (instant past t) x k d) past t u up within
+    (λ v e above below at so_far.
+    let legal : AreLegalEntries n (e ∷ instant past v) = subst (AreLegalEntries n) (entry_then past v e (omega (arith, below, within)) at) (accepted_then n past (v + 1) formed) in
+    agree_then k d (instant past t) (instant past v) (e ∷ instant past v) so_far (quiet_step n e (instant past v) k d legal (quiet v e above below at)))
+    (record { down = λ p. refl; logged = λ p. refl; stable = refl; dependents = λ p. (λ x. x, λ x. x) })
+
+-- so a delivery before both has an orphan at both or at neither
+pub orphans_agree : OrphansAgree
+orphans_agree n f past k d t u formed at made up within quiet = grind (arith, instants_agree n past k d t u formed up within quiet, agree_back, exposed_agrees, exposed, unexposed, det_then)
+
 -- ==== a scan over the entries that may change who is down or holds a determinant, and its safety between them
 
 -- ---- the set of processes that are down or hold a determinant
+
+pub inside_run : (n : ℕ) (past : List Entry) (d : Det) → AreLegalEntries n past → (q : ℕ) → down_or_holding past d q ≡ true → q < n
+inside_run n past d formed q h = grind (arith, down_inside, logs_inside)
 
 module _ (n : ℕ) (past : List Entry) (d : Det) (formed : AreLegalEntries n past) (down holders : FinSet nat_cmp) (downs : HasExactly down (λ p. is_down past p)) (holds : HasExactly holders (λ p. logs past p d)) where
   pub gone_shown : (q : ℕ) → contains (union down holders) q ≡ down_or_holding past d q
   gone_shown q = contains-union nat_cmp_total down holders q ∙ (λ i. downs q i || holds q i)
 
   pub gone_many : len (union down holders) ≡ count_below n (down_or_holding past d)
-  gone_many =
-      members_counted n (union down holders) (down_or_holding past d) (record {
-        process = λ q h.
-            elim (or_cases (is_down past q) (logs past q d) (sym (gone_shown q) ∙ h)) [
-              | inl fell ↦ down_inside n past q formed fell
-              | inr held ↦ logs_inside n past q d formed held
-            ];
-        member = λ q low. gone_shown q;
-      })
+  gone_many = members_counted n (union down holders) (down_or_holding past d) (record { process = λ q h. inside_run n past d formed q (sym (gone_shown q) ∙ h); member = λ q low. gone_shown q })
 
 -- no determinant is at risk while processes that make it safe are down or hold it
 kept_by : (n most : ℕ) (past : List Entry) → AreLegalEntries n past → (d : Det) (u : ℕ) (reached members : FinSet nat_cmp) → HasReached past d.dest.0 reached → IsSafetyOf Safe most d.dest.0 reached members
     → ((p : ℕ) → contains members p ≡ true → down_or_holding (instant past u) d p ≡ true) → IsAtRiskAt n most past d u → ⊥
 kept_by n most past formed d u reached members has_reached (inl many) stay thin =
-    let legal = accepted_then n past u formed in
-    let counted : len members ≡ count_below n (contains members) =
-    members_counted n members (contains members) (record {
-      process = λ q h.
-          elim (or_cases (is_down (instant past u) q) (logs (instant past u) q d) (stay q h)) [
-            | inl fell ↦ down_inside n (instant past u) q legal fell
-            | inr held ↦ logs_inside n (instant past u) q d legal held
-          ];
-      member = λ q low. refl;
-    }) in
+    let counted = members_counted n members (contains members) (record { process = λ q h. inside_run n (instant past u) d (accepted_then n past u formed) q (stay q h); member = λ q low. refl }) in
     omega (arith, thin.few, many, counted, count_below-within n (contains members) (down_or_holding (instant past u) d) (λ p low h. stay p h))
 kept_by n most past formed d u reached members has_reached (inr all) stay thin =
     let q = process_at past thin.left_over.1 in
@@ -198,45 +151,23 @@ pub kept_still : (n most : ℕ) (past : List Entry) → AreLegalEntries n past �
 kept_still n most past formed d t u reached down holders has_reached downs holds keep stay =
     kept_by n most past formed d u reached (union down holders) has_reached keep (λ p h. stay p (sym (gone_shown n (instant past t) d (accepted_then n past t formed) down holders downs holds p) ∙ h))
 
--- a change at or before the next mention that is not this mention precedes it
-pub beyond : (change mention : ℕ) → change ≤ mention → (mention == change) ≡ false → change < mention
-beyond change mention low apart = grind (arith, eq-eqb)
-
 pub unmentioned_at : (past : List Entry) (d : Det) (mentions : List ℕ) → HasMentions past d mentions → (t next : ℕ) → HasNoneUntil mentions t next → (v : ℕ) → t ≤ v → v < next → (e : Entry) → entry_at past v ≡ Some e → list_has (mentioned_dets e) d ≡ false
 unmentioned_at past d mentions mentioned t next none v above below e there = mentioned v e there (none v above below)
 
 -- an entry mentions the determinant exactly if its position is in the list of mentions
 pub mentioned_listed : (past : List Entry) (d : Det) (mentions : List ℕ) → HasMentions past d mentions → AreMentionsOf past d mentions → (v : ℕ) (e : Entry) → entry_at past v ≡ Some e → (told : Bool) → (told ≡ true) ↔ Contains mentions v → told ≡ list_has (mentioned_dets e) d
-mentioned_listed past d mentions mentioned only v e there true same =
-    let of = only v (same.0 refl) in
-    let is : Some of.0 ≡ Some e = sym of.1 ∙ there in
-    let one : of.0 ≡ e = cc is in
-    sym (ap (λ x. list_has (mentioned_dets x) d) (sym one) ∙ of.2)
-mentioned_listed past d mentions mentioned only v e there false same = sym (mentioned v e there (λ listed. false≢true (same.1 listed)))
+mentioned_listed past d mentions mentioned only v e there told same = grind (arith, only v, mentioned v e there)
 
 -- up to the next mention, an entry mentions the determinant exactly if it is that mention
 pub mentioned_next : (past : List Entry) (d : Det) (mentions : List ℕ) → HasMentions past d mentions → AreMentionsOf past d mentions → (t next : ℕ) → HasNoneUntil mentions t next
     → (v : ℕ) → t ≤ v → v ≤ next → (next ≡ v → Contains mentions v) → (e : Entry) → entry_at past v ≡ Some e → (next == v) ≡ list_has (mentioned_dets e) d
-mentioned_next past d mentions mentioned only t next none v above low found e there =
-    elim (eqb_tells next v) [
-      | inl here ↦
-          let of = only v (found here.1) in
-          let is : Some of.0 ≡ Some e = sym of.1 ∙ there in
-          let same : of.0 ≡ e = cc is in
-          here.0 ∙ sym (ap (λ x. list_has (mentioned_dets x) d) (sym same) ∙ of.2)
-      | inr apart ↦ apart.0 ∙ sym (unmentioned_at past d mentions mentioned t next none v above (beyond v next low apart.0) e there)
-    ]
+mentioned_next past d mentions mentioned only t next none v above low found e there = mentioned_listed past d mentions mentioned only v e there (next == v) (grind (arith, none v above))
 
 -- ---- until an entry mentions it or restarts a watched process
 
 -- what restarts none of some processes restarts none of fewer
 restarts_within : (inner outer : FinSet nat_cmp) (e : Entry) → ((p : ℕ) → contains inner p ≡ true → contains outer p ≡ true) → restarts_one outer e ≡ false → restarts_one inner e ≡ false
-restarts_within inner outer (Send from to ssn) inside out = refl
-restarts_within inner outer (Deliver to send rsn listed) inside out = refl
-restarts_within inner outer (Stable det) inside out = refl
-restarts_within inner outer (Crash who) inside out = refl
-restarts_within inner outer (Restart who listed) inside out = false_from_ne_true (contains inner who.0) (λ h. false≢true (sym out ∙ inside who.0 h))
-restarts_within inner outer (Forget who listed) inside out = refl
+restarts_within inner outer e inside out = grind arith
 
 module _ (n : ℕ) (past : List Entry) (formed : AreLegalEntries n past) (d : Det) (t next : ℕ) (within : next ≤ length past) (unmentioned : MentionsNone past d t next) where
   -- if no holder restarts, the holders that are not down then still hold it

@@ -1,6 +1,6 @@
 -- The result of a scan, interval by interval, and until when a delivery may be uncovered by it.
 use Rattle.std.proofs.lemmas.Grind.{common_steps}
-use Rattle.causal_audit.proofs.Common.{ℕ, ◌≡◌, ◌-◌, ◌<◌, ◌≤◌, inl, inr, List, [], ◌∷◌, ◌++◌, length, get_or, arith, ◌⊎◌, min, All, IsPartitionPoint, cases_lt, get_or_default, All-push, All-weaker, Contains-append_left, Contains-push, IsNonDecreasingBy-push, Entry}
+use Rattle.causal_audit.proofs.Common.{ℕ, ◌≡◌, ◌-◌, ◌<◌, ◌≤◌, List, [], ◌∷◌, ◌++◌, length, get_or, arith, ◌⊎◌, min, All, IsPartitionPoint, cases_lt, get_or_default, All-push, All-weaker, Contains-append_left, Contains-push, IsNonDecreasingBy-push, Entry}
 use Rattle.causal_audit.specs.declared.safety_scan.SafetyScan.{SafetyScan}
 use Rattle.causal_audit.specs.declared.safety_scan.det_safety.SafetyInterval.{SafetyInterval}
 use Rattle.causal_audit.specs.declared.safety_scan.at_risk_intervals.AtRiskIntervals.{AtRiskIntervals}
@@ -54,14 +54,4 @@ module _ (xs : List SafetyInterval) (bound passed : ℕ) (point : IsPartitionPoi
   -- otherwise each such instant is at or before the end of the last interval that begins by the bound
   pub last_before : AreAscendingIntervals xs → 0 < passed → passed ≤ length xs → (x : SafetyInterval) → x ≡ get_or xs (passed - 1) x → (u : ℕ) → u ≤ bound → IsInOne xs u → u ≤ min x.last bound
   last_before rising some inside x is u low one =
-      elim (cases_lt one.1.0 passed) [
-        | inl before ↦
-            let up : (get_or xs one.1.0 one.0).last ≤ (get_or xs (passed - 1) one.0).last = rising.lasts one.1.0 (passed - 1) one.0 (omega (arith, before)) (omega (arith, some, inside)) in
-            let at : (get_or xs one.1.0 one.0).last ≡ one.0.last = cc (one.1.2) in
-            let here : (get_or xs (passed - 1) one.0).last ≡ x.last = cc (is, get_or_default xs (passed - 1) one.0 x (omega (arith, some, inside))) in
-            omega (arith, up, at, here, one.3, low)
-        | inr after ↦
-            let ahead : bound < (get_or xs one.1.0 one.0).first = point.1 one.1.0 one.0 after one.1.1 in
-            let at : (get_or xs one.1.0 one.0).first ≡ one.0.first = cc (one.1.2) in
-            absurd (omega (arith, ahead, at, one.2, low))
-      ]
+      grind (arith, cases_lt one.1.0 passed, rising.lasts one.1.0 (passed - 1) one.0, point.1 one.1.0 one.0, get_or_default xs (passed - 1) one.0 x, one.1.2)

@@ -9,7 +9,7 @@ use Rattle.causal_audit.specs.declared.safety_scan.det_safety.SafetyInterval.{Sa
 use Rattle.causal_audit.specs.declared.index.transitions.TransitionCursor.{TransitionCursor}
 use Rattle.causal_audit.specs.Inside.PositionLists.{HasNoneUntil, IsCursor}
 use Rattle.causal_audit.specs.Inside.Index.RunIndexes.{IsTransitionIndex}
-use Rattle.causal_audit.specs.Inside.SafetyScan.Scans.{IsIntervalPassed, IsKeptUnmentioned, IsKeptUntil, IsScanPosition, IsAtRiskAt, IsSafetyOf, RulesOut}
+use Rattle.causal_audit.specs.Inside.SafetyScan.Scans.{IsIntervalPassed, IsKeptUnmentioned, IsKeptUntil, IsScanPosition, IsAtRiskAt, IsSafetyOf}
 use Rattle.causal_audit.specs.Inside.Index.TransitionCursors.{IsCursorAt}
 use Rattle.causal_audit.specs.Inside.DeliveryStates.{HasExactly, ShowsDownAfter, ShowsHoldersAfter}
 use Rattle.causal_audit.specs.Inside.SafetyScan.Persistence.{MentionsNone}
@@ -20,66 +20,40 @@ use Rattle.causal_audit.proofs.Steps.{entry_read, entry_then}
 use Rattle.causal_audit.proofs.index.DownAfterTurns.{passed_down}
 use Rattle.causal_trace.proofs.Lemmas.AtInstants.{next_state}
 
--- up to the next change no entry mentions the determinant, and the scan's position is kept
-pub record IsChange (look : SafetyScan) (scan_position : ScanPosition) (mention change : ℕ) : Type 0 where
-  pub formed : AreLegalEntries look.run.trace.now.recording.processes look.run.trace.now.recording.past
-  pub at : IsScanPosition look scan_position
-  pub up : scan_position.t ≤ change
-  pub low : change ≤ mention
-  pub early : mention ≤ look.end
-  pub none : HasNoneUntil look.mentions.now scan_position.t mention
-  pub kept : IsKeptUnmentioned look scan_position change
-
--- the next change is the next mention, or a transition before it
-pub is_change : (look : SafetyScan) (scan_position : ScanPosition) (mention change : ℕ) → AreLegalEntries look.run.trace.now.recording.processes look.run.trace.now.recording.past → IsScanPosition look scan_position
-    → (scan_position.t ≤ mention) × (mention ≤ look.end) → (scan_position.t ≤ change) × (change ≤ mention) → ((list : List ℕ) → IsCursor list scan_position.t scan_position.ahead → HasNoneUntil list scan_position.t mention) → IsKeptUnmentioned look scan_position change
-    → IsChange look scan_position mention change
-is_change look scan_position mention change formed at early bounds none kept = record {
-  formed = formed;
-  at = at;
-  up = bounds.0;
-  low = bounds.1;
-  early = early.1;
-  none = none look.mentions.now at.mentions;
-  kept = kept;
-}
-
-module _ (look : SafetyScan) (scan_position : ScanPosition) (mention change : ℕ) (is : IsChange look scan_position mention change) where
+-- up to the next change, which is the next mention or a transition before it, no entry mentions the determinant and the
+-- scan's position is kept
+module _ (look : SafetyScan) (scan_position : ScanPosition) (mention change : ℕ)
+    (formed : AreLegalEntries look.run.trace.now.recording.processes look.run.trace.now.recording.past) (at : IsScanPosition look scan_position) (early : (scan_position.t ≤ mention) × (mention ≤ look.end)) (bounds : (scan_position.t ≤ change) × (change ≤ mention))
+    (none_before : (list : List ℕ) → IsCursor list scan_position.t scan_position.ahead → HasNoneUntil list scan_position.t mention) (kept : IsKeptUnmentioned look scan_position change) where
   abbrev pub past : List Entry
   past = look.run.trace.now.recording.past
 
   abbrev pub n : ℕ
   n = look.run.trace.now.recording.processes
 
+  none : HasNoneUntil look.mentions.now scan_position.t mention
+  none = none_before look.mentions.now at.mentions
+
   within : change ≤ length past
-  within = omega (arith, is.low, is.early, look.within)
+  within = omega (arith, bounds.1, early.1, look.within)
 
   unmentioned : MentionsNone past look.det scan_position.t change
   unmentioned v e above below there =
-      none_mention (instant past look.end) look.det look.mentions.now look.mentioned scan_position.t change mention is.low is.none v e above below (entry_then past look.end v (omega (arith, below, is.low, is.early)) look.within ∙ there)
+      none_mention (instant past look.end) look.det look.mentions.now look.mentioned scan_position.t change mention bounds.1 none v e above below (entry_then past look.end v (omega (arith, below, bounds.1, early.1)) look.within ∙ there)
 
   kept_until : IsKeptUntil look scan_position change
-  kept_until = is.kept is.formed unmentioned
+  kept_until = kept formed unmentioned
 
   -- the interval up to the next change is passed
   pub passed_to : (s : SafetyInterval) (next : ℕ) → s.first ≡ scan_position.t → s.last ≡ change → s.safety ≡ scan_position.safety → change < next → next ≤ look.end + 1
       → ((u : ℕ) → change < u → u < next → IsAtRiskAt n look.limit past look.det u → ⊥) → IsIntervalPassed look scan_position.t next s
-  passed_to s next first last same ahead bound after = record {
-    first = first;
-    order = omega (arith, last, is.up);
-    last = omega (arith, last, ahead);
-    within = bound;
-    stands = λ u above below.
-        subst (λ r. RulesOut r n look.limit past look.det u) (sym same)
-        (kept_until.stands u above (omega (arith, below, last)));
-    after = λ u above below. after u (omega (arith, above, last)) below;
-  }
+  passed_to s next first last same ahead bound after = grind (arith, kept_until)
 
   -- ---- the entry of the change
 
   module _ (es : List Entry) (read : es ≡ entries_of look.run.trace.now.recording) (e : Entry) (value : e ≡ get_or es change e) (apart : change ≡ look.end → ⊥) where
     below : change < look.end
-    below = omega (arith, is.low, is.early, apart)
+    below = omega (arith, bounds.1, early.1, apart)
 
     there : entry_at past change ≡ Some e
     there = entry_read look.run.trace.now.recording es read change e (omega (arith, below, look.within)) value
@@ -105,14 +79,14 @@ module _ (look : SafetyScan) (scan_position : ScanPosition) (mention change : �
 
       told : (mention == change) ≡ list_has (mentioned_dets e) look.det
       told =
-          mentioned_next (instant past look.end) look.det look.mentions.now look.mentioned look.only scan_position.t mention is.none change is.up is.low
-          (λ same. subst (Contains look.mentions.now) same (found look.mentions.now is.at.mentions (omega (arith, same, below)))) e (entry_then past look.end change below look.within ∙ there)
+          mentioned_next (instant past look.end) look.det look.mentions.now look.mentioned look.only scan_position.t mention none change bounds.0 bounds.1
+          (λ same. subst (Contains look.mentions.now) same (found look.mentions.now at.mentions (omega (arith, same, below)))) e (entry_then past look.end change below look.within ∙ there)
 
       holders_then : HasExactly down_and_holders.holders (λ p. logs (instant past (change + 1)) p look.det)
       holders_then =
           subst (λ x. HasExactly down_and_holders.holders (λ p. logs x p look.det)) (sym next)
           (holders_after (instant past change) told
-          (holds_until n past is.formed look.det scan_position.t change within unmentioned scan_position.down_and_holders.holders is.at.holders kept_until.unrestarted change is.up (omega arith) fell fallen))
+          (holds_until n past formed look.det scan_position.t change within unmentioned scan_position.down_and_holders.holders at.holders kept_until.unrestarted change bounds.0 (omega arith) fell fallen))
 
       -- the scan continues after it
       pub onward_stop : (new : ScanPosition) → new.t ≡ change + 1 → new.ahead ≡ ahead → new.transitions ≡ transitions → new.down_and_holders ≡ down_and_holders → IsSafetyOf new.safety look.limit look.det.dest.0 look.reached (union down_and_holders.down down_and_holders.holders) → IsScanPosition look new
@@ -121,5 +95,5 @@ module _ (look : SafetyScan) (scan_position : ScanPosition) (mention change : �
       -- it ends if enough processes are down or hold the determinant and none is released later
       pub over : look.run.transitions.now.no_release_from ≤ change + 1 → IsSafetyOf Safe look.limit look.det.dest.0 look.reached (union down_and_holders.down down_and_holders.holders) → (u : ℕ) → change < u → u < look.end + 1 → IsAtRiskAt n look.limit past look.det u → ⊥
       over lasting keep u above under =
-          kept_still n look.limit past is.formed look.det (change + 1) u look.reached down_and_holders.down down_and_holders.holders look.reaching down_then holders_then keep
+          kept_still n look.limit past formed look.det (change + 1) u look.reached down_and_holders.down down_and_holders.holders look.reaching down_then holders_then keep
           (gone_lasts past look.det (change + 1) u (none_later past look.run.transitions.now.no_release_from (change + 1) lasting look.run.turned.lasting) (omega (arith, above)) (omega (arith, under, look.within)))

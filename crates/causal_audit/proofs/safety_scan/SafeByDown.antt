@@ -1,5 +1,5 @@
 -- How long a determinant is safe because others are down: as long as its holders are up and enough others are down.
-use Rattle.causal_audit.proofs.Common.{ℕ, ◌≡◌, ◌+◌, ◌<◌, ◌≤◌, true, false, List, ◌∷◌, length, Some, refl, sym, ap, subst, ◌∙◌, arith, ◌||◌, ◌==◌, not, false≢true, false_from_ne_true, ne_eqb, and_right, Det, Pid, count_below, members_counted, Entry, Send, Deliver, Stable, Crash, Restart, Forget, instant, is_down, logs, accepted_then, nat_cmp, FinSet, contains, len, AreLegalEntries}
+use Rattle.causal_audit.proofs.Common.{ℕ, ◌≡◌, ◌+◌, ◌<◌, ◌≤◌, true, false, List, ◌∷◌, length, Some, refl, sym, ap, subst, ◌∙◌, arith, ◌||◌, ◌==◌, not, false≢true, false_from_ne_true, ne_eqb, and_right, Det, Pid, count_below, members_counted, Entry, Crash, Restart, instant, is_down, logs, accepted_then, nat_cmp, FinSet, contains, len, AreLegalEntries}
 use Rattle.causal_trace.proofs.Lemmas.EntryFacts.{restarts_down}
 use Rattle.causal_holders.proofs.Lemmas.MemberCounts.{count_below-same}
 use Rattle.causal_audit.specs.Laws.{down_or_holding}
@@ -19,20 +19,12 @@ use Rattle.causal_trace.proofs.Lemmas.RunProcesses.{logs_inside}
 
 -- a process that is up remains up until it crashes
 up_more : (e : Entry) (past : List Entry) (p : ℕ) → ((who : Pid) → e ≡ Crash who → (who.0 == p) ≡ false) → is_down past p ≡ false → is_down (e ∷ past) p ≡ false
-up_more (Send from to ssn) past p apart up = up
-up_more (Deliver to send rsn listed) past p apart up = up
-up_more (Stable det) past p apart up = up
 up_more (Crash who) past p apart up = λ i. apart who refl i || up i
 up_more (Restart who listed) past p apart up = and_right (not (who.0 == p)) (is_down past p) up
-up_more (Forget who listed) past p apart up = up
+up_more e past p apart up = up
 
 none_restarted : (members : FinSet nat_cmp) (e : Entry) → ((who : Pid) (listed : List Det) → e ≡ Restart who listed → contains members who.0 ≡ false) → restarts_one members e ≡ false
-none_restarted members (Send from to ssn) none = refl
-none_restarted members (Deliver to send rsn listed) none = refl
-none_restarted members (Stable det) none = refl
-none_restarted members (Crash who) none = refl
-none_restarted members (Restart who listed) none = none who listed refl
-none_restarted members (Forget who listed) none = refl
+none_restarted members e none = grind arith
 
 -- a determinant that is not at risk has any safety
 pub has_any_safety : (s : DetSafety) (n most : ℕ) (past : List Entry) (d : Det) (u : ℕ) → (IsAtRiskAt n most past d u → ⊥) → RulesOut s n most past d u

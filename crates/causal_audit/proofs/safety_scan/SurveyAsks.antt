@@ -1,14 +1,15 @@
 -- The search for open deliveries, determinant by determinant.
-use Rattle.causal_audit.proofs.Common.{ℕ, ◌≡◌, ◌+◌, ◌<◌, ◌≤◌, inl, inr, true, List, [], ◌∷◌, ◌++◌, length, Option, None, Some, refl, sym, ap, subst, ◌∙◌, arith, ◌==◌, slice_index, Contains, map-append, All-push, All-nil, Contains-append_left, Contains-append_right, Contains-permutation, IsPermutation, IsPermutation-map, All-permutation, cases_lt, cond-true, cond-false, eq-eqb, ltb-true, ltb-false, Det, same_det, Entry, Send, Deliver, Stable, Crash, Restart, Forget, deliveries_in, det_at, det_of, det_then, instant, instant_length, AreLegalEntries}
+use Rattle.causal_audit.proofs.Common.{FinSet, nat_cmp, ℕ, ◌≡◌, ◌+◌, ◌<◌, ◌≤◌, inl, inr, true, List, [], ◌∷◌, ◌++◌, length, Option, None, Some, refl, sym, ap, subst, ◌∙◌, arith, slice_index, Contains, map-append, All-push, All-nil, Contains-append_left, Contains-append_right, Contains-permutation, IsPermutation, IsPermutation-map, All-permutation, cases_lt, cond-true, cond-false, eq-eqb, ltb-true, ltb-false, Det, same_det, Entry, Deliver, deliveries_in, det_at, det_of, det_then, instant, instant_length, AreLegalEntries}
 use Rattle.std.proofs.lemmas.Bool.{lt-ltb}
 use Rattle.std.proofs.lemmas.List.Elements.{All-append}
 use Rattle.causal_trace.specs.Numbers.{delivered_dets, number_of}
 use Rattle.causal_trace.proofs.Lemmas.DeliveryNumbers.{number_among, number_below, found_below, numbers_apart}
-use Rattle.causal_audit.specs.Numbers.{ArePositions, is_delivery, IsNumbered}
+use Rattle.causal_audit.specs.Numbers.{is_delivery, IsNumbered}
 use Rattle.causal_audit.specs.declared.group.walk_input.OpenDelivery.{OpenDelivery}
 use Rattle.causal_audit.specs.Searches.{SearchScope, IncludeUnsafe, IsNewest, delivery_count}
 use Rattle.causal_audit.specs.Inside.Index.Lists.{AreOwned, list_at}
-use Rattle.causal_audit.specs.Inside.Group.OpenDeliveries.{AreFollowed, AreAllOpen, AreListedOrSafe, AreOpenBetween, HasMore, IsDeliveryAt, IsOpenDelivery, IsListedOrSafe, positions_of}
+use Rattle.causal_audit.specs.Inside.Group.OpenDeliveries.{IsOpenDeliverySearch, AreFollowed, AreAllOpen, AreListedOrSafe, AreOpenBetween, HasMore, IsDeliveryAt, IsOpenDelivery, IsListedOrSafe, positions_of}
+use Rattle.causal_audit.specs.declared.index.mentions.Mentions.{Mentions}
 use Rattle.causal_audit.proofs.DeliveryNumbers.{numbered_below, numbered_later, numbered_some}
 use Rattle.causal_audit.proofs.Lemmas.NumberLemmas.{has_number}
 use Rattle.causal_audit.proofs.NoOrphanSoFar.{not_yet}
@@ -20,27 +21,20 @@ use Rattle.causal_name.proofs.Lemmas.DetOrder.{same_is}
 
 -- the next delivery has a determinant
 own_det : (n : ℕ) (e : Entry) (past : List Entry) → AreLegalEntries n (e ∷ past) → is_delivery e ≡ true → (d : Det) × (det_of past e ≡ Some d)
-own_det n e past formed is =
-    let some = numbered_some n (e ∷ past) (deliveries_in past) (length past) formed (inr (refl, is, refl)) in
-    (some.0, sym (cond-true (length past == length past) (det_of past e) (det_at past (length past)) (eq-eqb (length past) (length past) refl)) ∙ some.1)
+own_det n e past formed is = grind (arith, numbered_some n (e ∷ past) (deliveries_in past) (length past) formed (inr (refl, is, refl)))
 
 -- so each delivery has one
 dets_counted : (n : ℕ) (past : List Entry) → AreLegalEntries n past → length (delivered_dets past) ≡ deliveries_in past
 dets_counted n [] formed = refl
-dets_counted n (Send from to ssn ∷ past) formed = dets_counted n past formed.0
 dets_counted n (Deliver to send rsn listed ∷ past) formed = grind (arith, dets_counted n past formed.0, own_det)
-dets_counted n (Stable det ∷ past) formed = dets_counted n past formed.0
-dets_counted n (Crash who ∷ past) formed = dets_counted n past formed.0
-dets_counted n (Restart who listed ∷ past) formed = dets_counted n past formed.0
-dets_counted n (Forget who listed ∷ past) formed = dets_counted n past formed.0
+dets_counted n (e ∷ past) formed = dets_counted n past formed.0
 
 same_self : (d : Det) → same_det d d ≡ true
 same_self d = grind (arith, eq-eqb d.source.0 d.source.0 refl, eq-eqb d.ssn d.ssn refl, eq-eqb d.dest.0 d.dest.0 refl, eq-eqb d.rsn d.rsn refl)
 
 numbered_within : (past : List Entry) (i k : ℕ) → IsNumbered past i k → k < length past
 numbered_within [] i k numbered = absurd numbered
-numbered_within (e ∷ past) i k (inl old) = omega (arith, numbered_within past i k old)
-numbered_within (e ∷ past) i k (inr new) = omega (arith, new.0)
+numbered_within (e ∷ past) i k numbered = grind (arith, numbered_within past i k)
 
 -- the newest delivery up to number i with the determinant of delivery number i is that delivery
 pub number_of_own : (n : ℕ) (past : List Entry) → AreLegalEntries n past → (i k : ℕ) (d : Det) → IsNumbered past i k → det_at past k ≡ Some d → number_of (i + 1) (delivered_dets past) d ≡ Some i
@@ -49,17 +43,41 @@ number_of_own n (e ∷ past) formed i k d (inr new) at = grind (arith, cond-true
 number_of_own n (e ∷ past) formed i k d (inl old) at =
     grind (arith, number_of_own n past formed.0 i k d old, numbered_within, cond-false, dets_counted, numbered_below)
 
--- this also holds by the list of positions before an instant
-pub number_at_own : (n : ℕ) (past : List Entry) → AreLegalEntries n past → (end : ℕ) (positions : List ℕ) (i : ℕ) (d : Det) → end ≤ length past → ArePositions (instant past end) positions → i < length positions → det_at past (slice_index positions i) ≡ Some d
-    → number_of (i + 1) (delivered_dets past) d ≡ Some i
-number_at_own n past formed end positions i d within are low at = grind (arith, number_of_own, numbered_later)
-
 -- the determinant is that of the delivery
 pub det_of_number : (n : ℕ) (past : List Entry) → AreLegalEntries n past → (j k : ℕ) (d : Det) → number_of (j + 1) (delivered_dets past) d ≡ Some j → IsNumbered past j k → det_at past k ≡ Some d
 det_of_number n past formed j k d is numbered =
     let some = numbered_some n past j k formed numbered in
     let same : some.0 ≡ d = same_is some.0 d (numbers_apart (j + 1) (delivered_dets past) some.0 d j (number_of_own n past formed j k some.0 numbered some.1) is) in
     some.1 ∙ ap (λ x. Some x) same
+
+-- the delivery with a number before the end of a search
+module _ (inside scope : SearchScope) (view : inside ≡ scope) (mentions : Mentions) (departures : List ℕ) (reached : List (FinSet nat_cmp)) (positions : List ℕ)
+    (kept : IsOpenDeliverySearch inside.run inside.end mentions departures reached positions) (number : ℕ) (few : number < delivery_count scope) where
+  pub numbered_then : IsNumbered (instant scope.run.past scope.end) number (slice_index positions number)
+  numbered_then =
+      subst (λ (s : SearchScope). number < delivery_count s → IsNumbered (instant s.run.past s.end) number (slice_index positions number)) view
+      (λ low. kept.numbered.each number (omega (arith, low, kept.numbered.count))) few
+
+  pub within_run : scope.end ≤ length scope.run.past
+  within_run = subst (λ (s : SearchScope). s.end ≤ length s.run.past) view kept.within
+
+  pub legal : AreLegalEntries scope.run.processes scope.run.past
+  legal = subst (λ (s : SearchScope). AreLegalEntries s.run.processes s.run.past) view kept.formed.accepted
+
+  pub numbered_here : IsNumbered scope.run.past number (slice_index positions number)
+  numbered_here = numbered_later scope.run.past scope.end number (slice_index positions number) within_run numbered_then
+
+  pub before_end : slice_index positions number < scope.end
+  before_end = omega (arith, numbered_within (instant scope.run.past scope.end) number (slice_index positions number) numbered_then, instant_length scope.run.past scope.end within_run)
+
+  -- it has a determinant, of which it is the newest delivery up to its number
+  pub det_here : (o : Option Det) → o ≡ det_at inside.run.past (slice_index positions number) → (d : Det) × (o ≡ Some d) × (number_of (number + 1) (delivered_dets scope.run.past) d ≡ Some number)
+  det_here o read =
+      let some = numbered_some scope.run.processes scope.run.past number (slice_index positions number) legal numbered_here in
+      (some.0, read ∙ ap (λ (s : SearchScope). det_at s.run.past (slice_index positions number)) view ∙ some.1, number_of_own scope.run.processes scope.run.past legal number (slice_index positions number) some.0 numbered_here some.1)
+
+  pub own_here : (o : Option Det) (d : Det) → o ≡ det_at inside.run.past (slice_index positions number) → o ≡ Some d → number_of (number + 1) (delivered_dets scope.run.past) d ≡ Some number
+  own_here o d read is = grind (arith, det_here o read)
 
 -- ==== the newest delivery with a determinant
 
@@ -81,8 +99,7 @@ newest_among_fewer m n (x ∷ older) d i low wider at =
     grind (arith, cond-true, cond-false, lt-ltb, ltb-true, ltb-false, found_below, number_below n older d, newest_among_fewer m n older d i low wider)
 
 some_number : (o : Option ℕ) → (o ≡ None → ⊥) → (i : ℕ) × (o ≡ Some i)
-some_number None there = absurd (there refl)
-some_number (Some i) there = (i, refl)
+some_number o there = grind arith
 
 -- a delivery before the end has a newest one with its determinant, at its own number or later
 pub has_newest : (scope : SearchScope) → AreLegalEntries scope.run.processes scope.run.past → scope.end ≤ length scope.run.past → (k : ℕ) (d : Det) → k < scope.end → det_at scope.run.past k ≡ Some d → (i : ℕ) × IsNewest scope d i × (i < delivery_count scope)
@@ -110,11 +127,7 @@ module _ (scope : SearchScope) (formed : AreLegalEntries scope.run.processes sco
 
   -- none is older than the oldest
   pub none_older : (number : ℕ) → number_of number (delivered_dets scope.run.past) d ≡ None → number ≤ i
-  none_older number is =
-      elim (cases_lt i number) [
-        | inl low ↦ absurd (newest_there (i + 1) number (delivered_dets scope.run.past) d i (omega (arith, low)) own is)
-        | inr high ↦ high
-      ]
+  none_older number is = grind (arith, newest_there, own)
 
 -- one number is that of one determinant
 pub one_determinant : (scope : SearchScope) (d e : Det) (i : ℕ) → IsNewest scope d i → number_of (i + 1) (delivered_dets scope.run.past) e ≡ Some i → d ≡ e
@@ -153,19 +166,13 @@ module _ (scope : SearchScope) (before : List OpenDelivery) (delivery : OpenDeli
 
 -- no delivery
 pub nothing_listed : (scope : SearchScope) → scope.end ≤ length scope.run.past → (to : ℕ) → AreOpenBetween scope to to []
-nothing_listed scope within to = record {
-  followed = record { within = within; deliveries = All-nil (λ (x : OpenDelivery). IsDeliveryAt scope.run.past x.position); none_later = All-nil (IsOpenDelivery scope.run scope.f scope.end) };
-  all = λ k i d early at newest low high. absurd (omega (arith, low, high));
-}
+nothing_listed scope within to = grind (arith, All-nil)
 
 -- the part of one more number
 pub one_more_number : (scope : SearchScope) (number to : ℕ) (before after : List OpenDelivery) → HasMore scope before after → ((d : Det) → IsNewest scope d number → AreListedOrSafe scope after d) → AreOpenBetween scope (number + 1) to before → AreOpenBetween scope number to after
 one_more_number scope number to before after more told was = record {
   followed = more.followed was.followed;
-  all = λ k i d early at newest low high. elim (cases_lt number i) [
-    | inl above ↦ more.listed k (was.all k i d early at newest (omega (arith, above)) high)
-    | inr there ↦ let same : i ≡ number = omega (arith, low, there) in told d (subst (IsNewest scope d) same newest) k early at
-  ];
+  all = λ k i d early at newest low high. grind (arith, cases_lt number i, more.listed k, was.all k i d early at newest, told d);
 }
 
 -- the deliveries of both
@@ -178,20 +185,11 @@ both_followed scope a b first second = record {
 
 -- two parts of a search
 pub parts_joined : (scope : SearchScope) (from mid to : ℕ) (later earlier : List ℕ) → IncludeUnsafe scope mid to later → IncludeUnsafe scope from mid earlier → IncludeUnsafe scope from to (later ++ earlier)
-parts_joined scope from mid to later earlier second first k i d early at newest low high =
-    elim (cases_lt i mid) [
-      | inl below ↦ elim (first k i d early at newest low below) [ inl among ↦ inl (Contains-append_right later earlier k among) | inr none ↦ inr none ]
-      | inr above ↦ elim (second k i d early at newest above high) [ inl among ↦ inl (Contains-append_left later earlier k among) | inr none ↦ inr none ]
-    ]
+parts_joined scope from mid to later earlier second first k i d early at newest low high = grind (arith, Contains-append_left, Contains-append_right)
 
 -- the whole search
 pub all_told : (scope : SearchScope) (candidates : List OpenDelivery) → AreLegalEntries scope.run.processes scope.run.past → AreFollowed scope candidates → IncludeUnsafe scope 0 (delivery_count scope) (positions_of candidates) → AreAllOpen scope candidates
-all_told scope candidates formed followed told = record {
-  followed = followed;
-  all = λ k early made.
-      let newest = has_newest scope formed followed.within k made.0 early made.1 in
-      told k newest.0 made.0 early made.1 newest.1 (omega arith) newest.2;
-}
+all_told scope candidates formed followed told = grind (arith, has_newest)
 
 -- deliveries after the end have no orphan by the end
 pub any_other : (scope : SearchScope) (candidates : List OpenDelivery) → AreAllOpen scope candidates → (k : ℕ) (d : Det) → det_at scope.run.past k ≡ Some d → IsListedOrSafe scope candidates k
@@ -213,8 +211,5 @@ in_any_order scope candidates sorted moved all =
         deliveries = All-permutation (λ (x : OpenDelivery). IsDeliveryAt scope.run.past x.position) candidates sorted moved all.followed.deliveries;
         none_later = All-permutation (IsOpenDelivery scope.run scope.f scope.end) candidates sorted moved all.followed.none_later;
       };
-      all = λ k early made. elim (all.all k early made) [
-        | inl among ↦ inl (Contains-permutation (positions_of candidates) (positions_of sorted) k places among)
-        | inr none ↦ inr none
-      ];
+      all = λ k early made. grind (arith, all.all k early made, Contains-permutation (positions_of candidates) (positions_of sorted) k places);
     }

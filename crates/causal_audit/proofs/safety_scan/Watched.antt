@@ -1,5 +1,5 @@
 -- Which processes a scan watches.
-use Rattle.causal_audit.proofs.Common.{ℕ, ◌≡◌, inl, inr, true, refl, sym, subst, ◌∙◌, or_cases, or_left, or_right, eq-eqb, eqb-true, nat_cmp_total, nat_cmp, FinSet, contains, insert, union, contains-union, difference, contains-difference, and_parts, not, ◌&&◌, ◌⊎◌, ◌==◌}
+use Rattle.causal_audit.proofs.Common.{nat_tests, ℕ, ◌≡◌, inr, true, refl, ◌∙◌, or_left, or_right, eq-eqb, nat_cmp_total, nat_cmp, FinSet, contains, insert, union, contains-union, difference, contains-difference, arith}
 use Rattle.std.specs.FinSet.{is_subset, is_subset-contains, contains-is_subset}
 use Rattle.causal_audit.specs.Inside.SafetyScan.Scans.{AreWatched, IsSafetyOf}
 use Rattle.causal_audit.specs.declared.safety_scan.det_safety.DetSafety.{DetSafety}
@@ -20,34 +20,30 @@ watched_holders s most receiver reached down holders stands = record { gone = ho
 -- the holders, and of the processes that its receiver reaches those that are down, if these are all that it reaches
 pub watched_reached : (most receiver : ℕ) (reached down holders : FinSet nat_cmp) → is_subset reached (union down holders) ≡ true
     → AreWatched Safe most receiver reached down holders (union holders (difference down (difference down reached)))
-watched_reached most receiver reached down holders all =
-    record {
-      gone = λ p h.
-          elim (or_cases (contains holders p) (contains (difference down (difference down reached)) p) (sym (contains-union nat_cmp_total holders (difference down (difference down reached)) p) ∙ h)) [
-            | inl held ↦ holder_gone down holders p held
-            | inr fell ↦ contains-union nat_cmp_total down holders p ∙ or_left (contains down p) (contains holders p) (and_parts (contains down p) (not (contains (difference down reached) p)) (sym (contains-difference nat_cmp_total down (difference down reached) p) ∙ fell)).0
-          ];
-      holding = λ p h. contains-union nat_cmp_total holders (difference down (difference down reached)) p ∙ or_left (contains holders p) (contains (difference down (difference down reached)) p) h;
-      stands = inr (contains-is_subset nat_cmp_total reached (union holders (difference down (difference down reached))) (λ q h. both q h (or_cases (contains down q) (contains holders q) (sym (contains-union nat_cmp_total down holders q) ∙ is_subset-contains nat_cmp_total reached (union down holders) all q h))));
-    }
-  where
-    both : (q : ℕ) → contains reached q ≡ true → (contains down q ≡ true) ⊎ (contains holders q ≡ true) → contains (union holders (difference down (difference down reached))) q ≡ true
-    both q h (inl fell) =
-        contains-union nat_cmp_total holders (difference down (difference down reached)) q
-        ∙ or_right (contains holders q) (contains (difference down (difference down reached)) q)
-        (contains-difference nat_cmp_total down (difference down reached) q
-        ∙ (λ i. fell i && not ((contains-difference nat_cmp_total down reached q ∙ (λ j. fell j && not (h j))) i)))
-    both q h (inr held) = contains-union nat_cmp_total holders (difference down (difference down reached)) q ∙ or_left (contains holders q) (contains (difference down (difference down reached)) q) held
+watched_reached most receiver reached down holders all = record {
+  gone = λ p h.
+      grind (
+        arith,
+        h,
+        nat_tests,
+        contains-union nat_cmp_total holders (difference down (difference down reached)) p,
+        contains-difference nat_cmp_total down (difference down reached) p,
+        contains-union nat_cmp_total down holders p,
+      );
+  holding = λ p h. contains-union nat_cmp_total holders (difference down (difference down reached)) p ∙ or_left (contains holders p) (contains (difference down (difference down reached)) p) h;
+  stands = inr (contains-is_subset nat_cmp_total reached (union holders (difference down (difference down reached))) (λ q h.
+      grind (
+        arith,
+        h,
+        nat_tests,
+        contains-union nat_cmp_total holders (difference down (difference down reached)) q,
+        contains-difference nat_cmp_total down (difference down reached) q,
+        contains-difference nat_cmp_total down reached q,
+        contains-union nat_cmp_total down holders q,
+        is_subset-contains nat_cmp_total reached (union down holders) all q h,
+      )));
+}
 
 -- the holders and the receiver, where it is down or one of them
 pub watched_receiver : (most receiver : ℕ) (reached down holders : FinSet nat_cmp) → contains (union down holders) receiver ≡ true → AreWatched AtRisk most receiver reached down holders (insert holders receiver)
-watched_receiver most receiver reached down holders there =
-    record {
-      gone = λ p h.
-          elim (or_cases (receiver == p) (contains holders p) (sym (inserted holders receiver p) ∙ h)) [
-            | inl same ↦ subst (λ q. contains (union down holders) q ≡ true) (eqb-true receiver p same) there
-            | inr held ↦ holder_gone down holders p held
-          ];
-      holding = λ p h. inserted holders receiver p ∙ or_right (receiver == p) (contains holders p) h;
-      stands = inserted holders receiver receiver ∙ or_left (receiver == receiver) (contains holders receiver) (eq-eqb receiver receiver refl);
-    }
+watched_receiver most receiver reached down holders there = grind (arith, inserted, holder_gone, eq-eqb receiver receiver refl)

@@ -14,6 +14,7 @@ use std::alloc::Global;
 
 /// Adds the event of one more entry and returns its number. `present` maps each process to the clock's lane of its
 /// present lane.
+#[tactic(auto, using(crate::proofs::by_clock::ClockEvents::of_events))]
 fn add_event(entry: &Entry, clocks: &mut Clocks, present: &mut [u32]) -> Result<u32, ClockFault>
     requires { CanExtendClock entry.now clocks.old present.old }
     ensures mirrors { (n : ℕ) (past : List Entry) → AreLegalEntries n (entry.now ∷ past) →

@@ -63,6 +63,7 @@ impl WalkInput<'_> {
     ///
     /// # Errors
     /// `NoMemory` if allocation fails.
+    #[tactic(auto, using(crate::proofs::group::GroupReach::none_in))]
     pub fn prepare_walk(
         &self,
         buffers: &mut WalkBuffers,

@@ -28,7 +28,7 @@ pub fn no_copies() -> DetCopies
 }
 
 /// Removes the copies of each determinant.
-#[tactic(auto, using(crate::proofs::Begins::read_same))]
+#[tactic(auto, using(crate::proofs::Rules::of_rows))]
 pub fn clear_copies(copies: &mut Vec<DetCopies>)
     ensures count { length copies.new.items ≡ length copies.old.items }
     ensures none { (j : ℕ) → j < length copies.old.items →
@@ -62,6 +62,7 @@ pub fn changed_places(entry: &Entry, mentioned: Places, held: Places, all: Place
 
 /// Updates the copies at the places `touched` by one entry, which mentions the determinants of the places `mentioned`.
 /// Takes O(places in `touched`) time.
+#[tactic(auto, using(crate::proofs::group::GroupReach::fewer))]
 pub fn update_copies(copies: &mut Vec<DetCopies>, entry: &Entry, mentioned: Places, touched: Places)
     requires buffers { length copies.old.items ≡ 256 }
     ensures count { length copies.new.items ≡ length copies.old.items }

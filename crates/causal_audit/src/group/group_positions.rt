@@ -24,6 +24,7 @@ pub fn sort_by_position<'a>(
 
 /// Returns the places of the deliveries at position t, and advances `passed` beyond them. The group is in ascending
 /// order of positions, and the first `passed` deliveries precede t.
+#[tactic(auto, using(crate::proofs::group::GroupReach::none_in, crate::proofs::group::GroupWalk::own_all, crate::proofs::group::GroupWalk::passed_all))]
 pub fn places_at(candidates: &[OpenDelivery], passed: &mut usize, t: u32) -> Places
     requires few { length candidates.now ≤ 256 }
     requires order { AreInOrder candidates.now }

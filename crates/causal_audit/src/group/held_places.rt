@@ -18,6 +18,7 @@ pub fn held_by_receiver(held: &[Places], entry: &Entry) -> Places
 }
 
 /// Replaces the row of a process, if it has one.
+#[tactic(auto, using(crate::proofs::Rules::of_rows))]
 fn put_row(rows: &mut Vec<Places>, p: u8, places: Places)
     ensures count { length rows.new.items ≡ length rows.old.items }
     ensures others { (i : ℕ) → (i ≡ p → ⊥) → row rows.new.items i ≡ row rows.old.items i }

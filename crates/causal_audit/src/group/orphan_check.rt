@@ -16,7 +16,7 @@ use causal_holders::Holders;
 use causal_trace::trace::Trace;
 
 /// Returns the processes that depend on the delivery of a place.
-#[tactic(auto, using(causal_holders::proofs::Lemmas::Sets::inserted))]
+#[tactic(auto, using(causal_holders::proofs::Lemmas::Sets::inserted, crate::proofs::Rules::of_rows))]
 fn dependents_of(present: &[Places], place: u8) -> Holders
     requires { length present.now ≤ 256 }
     ensures { (p : ℕ) → set.contains result p ≡ set.contains (row present.now p) place }
@@ -57,6 +57,7 @@ fn check_place(buffers: &WalkBuffers, f: u16, k: u32, place: u8, t: u32) -> Opti
 /// Returns the breach of a group after the entry of a step: that of the lowest position; `None` if no delivery has an
 /// orphan. Only deliveries that are still open and that the entry may newly orphan are checked. A delivery that has
 /// closed is removed from the open ones.
+#[tactic(auto, using(crate::proofs::group::GroupReach::fewer, crate::proofs::group::GroupWalk::judged_none))]
 pub fn check_step(
     buffers: &WalkBuffers,
     trace: &Trace,

@@ -44,7 +44,7 @@ pub fn put(rows: &mut Rows, start: u32, place: u8, position: u32) -> Result<(), 
 }
 
 /// Empties each of these rows.
-#[tactic(auto, using(crate::proofs::Begins::read_same))]
+#[tactic(auto, using(crate::proofs::Rules::of_rows))]
 pub fn clear(rows: &mut Vec<Places>)
     ensures count { length rows.new.items ≡ length rows.old.items }
     ensures none { (i : ℕ) → row rows.new.items i ≡ set.empty }

@@ -52,6 +52,7 @@ impl Model for Rows {
 }
 
 /// Returns whether a slot contains this set.
+#[tactic(auto, using(causal_holders::specs::SameMembers::same_members_equal))]
 fn is_at(sets: &[Places], slot: u32, places: Places) -> bool
     ensures { result ≡ true → IsAt sets.now slot places }
 {
@@ -75,6 +76,7 @@ fn are_full(sets: &[Places]) -> bool
 ///
 /// # Errors
 /// `NoMemory` if allocation fails or each slot number is taken.
+#[tactic(auto, using(crate::proofs::group::RowSlots::slot_added))]
 fn add(sets: &mut Vec<Places>, places: Places) -> Result<u32, NoMemory>
     ensures added { IfOk result (IsAdded sets.old.items sets.new.items places) }
     ensures err { OnErr result (sets.new.items ≡ sets.old.items) }
@@ -88,6 +90,7 @@ fn add(sets: &mut Vec<Places>, places: Places) -> Result<u32, NoMemory>
 }
 
 /// Returns the slot of a set: `like` if it contains the set, otherwise a new slot.
+#[tactic(auto, using(crate::proofs::group::RowSlots::slot_found))]
 fn slot_of(sets: &mut Vec<Places>, like: u32, places: Places) -> Result<u32, NoMemory>
     ensures slot { IfOk result (IsSlotOf sets.old.items sets.new.items places) }
     ensures err { OnErr result (sets.new.items ≡ sets.old.items) }
@@ -123,6 +126,7 @@ fn reset(
 
 impl Rows {
     /// Returns rows without entries.
+    #[tactic(auto, using(crate::proofs::group::RowSlots::slots_none))]
     pub fn new(alloc: Global) -> Rows
         ensures { result ≡ [] }
     {
@@ -155,6 +159,7 @@ impl Rows {
     ///
     /// # Errors
     /// `NoMemory` if allocation fails.
+    #[tactic(auto, using(crate::proofs::group::RowSlots::first_empty))]
     pub fn begin(&mut self, entries: u32, marked: usize) -> Result<(), NoMemory>
         ensures count { OnOk result (length self.new ≡ entries) }
         ensures empty { OnOk result ((i : ℕ) → row self.new i ≡ set.empty) }
@@ -194,6 +199,7 @@ impl Rows {
     ///
     /// # Errors
     /// `NoMemory` if allocation fails.
+    #[tactic(auto, using(crate::proofs::group::RowSlots::stored))]
     pub fn set_row(&mut self, i: usize, p: u8, places: Places) -> Result<(), NoMemory>
         requires { i < length self.old }
         ensures { OnOk result (self.new ≡ slice_set self.old i places) }

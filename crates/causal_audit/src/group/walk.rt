@@ -83,6 +83,7 @@ impl WalkInput<'_> {
     ///
     /// # Errors
     /// `NoMemory` if allocation fails.
+    #[tactic(auto, using(crate::proofs::Rules::of_orders))]
     fn earliest_in_group(
         &self,
         f: u16,

@@ -11,6 +11,7 @@ use causal_name::NoMemory;
 ///
 /// # Errors
 /// `NoMemory` if allocation fails.
+#[tactic(auto, using(crate::proofs::Rules::of_orders))]
 pub fn sort_for_groups(candidates: &mut Vec<OpenDelivery>) -> Result<(), NoMemory>
     ensures { IsPermutation candidates.old.items candidates.new.items }
 {

@@ -65,6 +65,7 @@ fn needs_all_lists(trace: &Trace, end: u32) -> bool {
 
 /// Returns how many of the trace's first deliveries get lists: those before the instant `end`. A search then skips
 /// later deliveries of the same message, at most one for each lane. If that could take long, all deliveries get lists.
+#[tactic(auto, using(crate::proofs::DeliveryNumbers::instants_fewer, crate::proofs::Steps::begins))]
 fn lists_needed(trace: &Trace, end: u32) -> usize
     requires { end ≤ length trace.now.recording.past }
     ensures { deliveries_in (instant trace.now.recording.past end) ≤ result }
@@ -143,6 +144,7 @@ fn occurrences(alloc: Global, numbers: &[u32], count: usize) -> Result<Vec<u32>,
 }
 
 /// Returns `count` empty lists, each with capacity for as many positions as its number occurs.
+#[tactic(auto, using(crate::proofs::index::Capacities::spare_all))]
 fn allocate_lists(
     alloc: Global,
     numbers: &[u32],

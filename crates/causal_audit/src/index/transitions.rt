@@ -282,6 +282,7 @@ impl TransitionCursor<'_> {
     ghost use Rattle.causal_audit.specs.Inside.SafetyScan.Persistence.{CrashesNone};
 
     /// Returns the processes that are down after the transitions that were passed.
+    #[tactic(auto, using(crate::proofs::index::DownAfterTurns::none_turned))]
     pub fn down(&self) -> Holders
         ensures { (past : List Entry) (t : ℕ) → t ≤ length past →
             IsTransitionIndex past self.now.transitions.now →

@@ -78,6 +78,7 @@ impl DownAndHolders {
 
     /// Returns a number of down processes: as long as more are down and each holder is up, the determinant is safe. `None`
     /// unless it is safe only because so many others are down.
+    #[tactic(auto, using(crate::proofs::Shown::few_members))]
     pub fn down_bound(&self, safety: DetSafety, most: u16, reached: Holders) -> Option<u8>
         ensures { MatchOption result (Unit {0}) (IsDownBound most self.now.down self.now.holders) }
     {

@@ -2,7 +2,7 @@ use Rattle.causal_audit.proofs.Common.{length, subst, arith, deliveries_in, Reco
 use Rattle.causal_audit.specs.declared.breach.Excess.{Excess}
 use Rattle.causal_audit.specs.declared.breach.Breach.{Breach}
 use Rattle.causal_audit.specs.Breaches.{FirstExcess, EarliestBreachBy, last_deciding_instant}
-use Rattle.causal_audit.proofs.VerdictLemmas.{accepted, exceeded, orphaned, no_orphan_by, no_orphan_before, few_ever, few_before}
+use Rattle.causal_audit.proofs.VerdictLemmas.{accepted, exceeded, no_orphan_by, no_orphan_before}
 use Rattle.causal_audit.proofs.clock_audit.decide_verdict.Goals as goal
 
 -- the earliest breach by the last instant that can decide
@@ -12,9 +12,6 @@ Bounded r f excess breach = EarliestBreachBy r f (last_deciding_instant (length 
 pub returns-in-None-None : goal.returns-in-None-None
 returns-in-None-None c = λ r f excess least.
     accepted r f (subst (λ x. Bounded r f x None) c.in-None-None.is-0 (subst (Bounded r f c.args.excess) c.in-None-None.is-1 least)) (subst (FirstExcess r f) c.in-None-None.is-0 excess)
-
-pub returns-in-None-Some : goal.returns-in-None-Some
-returns-in-None-Some c = grind (arith, orphaned, few_ever)
 
 pub returns-in-Some-None : goal.returns-in-Some-None
 returns-in-Some-None c = λ r f excess least.
@@ -27,6 +24,3 @@ returns-then-x-b c = λ r f excess least.
     let both = c.in-Some-Some in
     let one = subst (λ x. Bounded r f x (Some both.b)) both.is-0 (subst (Bounded r f c.args.excess) both.is-1 least) in
     rw c.exceeded_verdict-then-x-b.ensures (exceeded r f both.x (subst (FirstExcess r f) both.is-0 excess) (no_orphan_before r f both.b one.1 both.x.instant c.if-x-b.true))
-
-pub returns-else-x-b : goal.returns-else-x-b
-returns-else-x-b c = grind (arith, orphaned, few_before)

@@ -1,18 +1,11 @@
-use Rattle.std.proofs.Common.{arith}
-use Rattle.causal_audit.proofs.Between.{sent_reached, sent_unreached, delivered_reached, delivered_unreached, stored, forgotten, crashed, restarted}
+use Rattle.causal_audit.proofs.Between.{sent_reached, delivered_reached, stored, forgotten, crashed, restarted}
 use Rattle.causal_audit.proofs.delivery_state.dependents_after.Goals as goal
 
 pub returns-then-reached : goal.returns-then-reached
 returns-then-reached c n past k formed tells are = rw c.with_member.ensures (sent_reached n _ past k formed _ tells _ are _ _ _ c.in-Send.is c.if-reached.true)
 
-pub returns-else-reached : goal.returns-else-reached
-returns-else-reached c n past k formed tells are = grind (arith, sent_unreached)
-
 pub returns-then-reached-2 : goal.returns-then-reached-2
 returns-then-reached-2 c n past k formed tells are = rw c.with_member-then-reached-2.ensures (delivered_reached n _ past k formed _ tells _ are _ _ _ _ c.in-Deliver.is c.if-reached-2.true)
-
-pub returns-else-reached-2 : goal.returns-else-reached-2
-returns-else-reached-2 c n past k formed tells are = grind (arith, delivered_unreached)
 
 pub returns-in-Crash : goal.returns-in-Crash
 returns-in-Crash c n past k formed tells are = rw c.without_member.ensures (crashed n _ past k formed _ tells _ are _ c.in-Crash.is)

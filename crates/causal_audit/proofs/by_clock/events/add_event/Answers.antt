@@ -1,6 +1,6 @@
-use Rattle.std.proofs.Common.{Err, ◌≤◌, length, arith, ap}
-use Rattle.causal_audit.proofs.by_clock.ClockEvents.{room, some_lane, sender_in, receiver_in, sent_in, restarted_in, lanes_left, after_send, after_deliver, after_stable, after_crash, after_forget, after_restart, only_memory}
-use Rattle.causal_audit.proofs.index.Filings.{on_ok}
+use Rattle.std.proofs.Common.{length, arith, ap}
+use Rattle.causal_audit.proofs.by_clock.ClockEvents.{room, sender_in, receiver_in, sent_in, restarted_in, after_restart}
+use Rattle.std.proofs.lemmas.Result.{on_ok_weaker}
 use Rattle.causal_audit.proofs.by_clock.events.add_event.Goals as goal
 
 pub bounds-present-from : goal.bounds-present-from
@@ -39,26 +39,5 @@ local-requires-in-Crash-clause-room c = room _ _ _ c.requires
 pub local-requires-in-Forget-clause-room : goal.local-requires-in-Forget-clause-room
 local-requires-in-Forget-clause-room c = room _ _ _ c.requires
 
-pub returns-in-Send-clause-mirrors : goal.returns-in-Send-clause-mirrors
-returns-in-Send-clause-mirrors c n past accepted m = grind (arith, on_ok, after_send)
-
-pub returns-in-Deliver-clause-mirrors : goal.returns-in-Deliver-clause-mirrors
-returns-in-Deliver-clause-mirrors c n past accepted m = grind (arith, on_ok, after_deliver)
-
-pub returns-in-Stable-clause-mirrors : goal.returns-in-Stable-clause-mirrors
-returns-in-Stable-clause-mirrors c n past accepted m = grind (arith, on_ok, after_stable, some_lane)
-
-pub returns-in-Crash-clause-mirrors : goal.returns-in-Crash-clause-mirrors
-returns-in-Crash-clause-mirrors c n past accepted m = grind (arith, on_ok, after_crash, some_lane)
-
-pub returns-in-Forget-clause-mirrors : goal.returns-in-Forget-clause-mirrors
-returns-in-Forget-clause-mirrors c n past accepted m = grind (arith, on_ok, after_forget, some_lane)
-
 pub returns-in-Ok-clause-mirrors : goal.returns-in-Ok-clause-mirrors
-returns-in-Ok-clause-mirrors c n past accepted m = on_ok c.local-in-Restart.result (λ appended. rw appended (rw (c.in-Ok.ensures.opened, c.in-Ok.ensures.number) (after_restart n past _ _ _ accepted m _ _ c.in-Restart.is))) c.local-in-Restart.ensures.appended
-
-pub returns-in-Err-clause-refused : goal.returns-in-Err-clause-refused
-returns-in-Err-clause-refused c =
-    only_memory c.in-Err.fault (λ e.
-    let many : 192 ≤ c.args.clocks.now.opened = c.in-Err.ensures.lanes.0 (ap Err e) in
-    omega (arith, many, lanes_left _ _ _ c.requires _ _ c.in-Restart.is))
+returns-in-Ok-clause-mirrors c n past accepted m = on_ok_weaker c.local-in-Restart.result (λ appended. rw appended (rw (c.in-Ok.ensures.opened, c.in-Ok.ensures.number) (after_restart n past _ _ _ accepted m _ _ c.in-Restart.is))) c.local-in-Restart.ensures.appended

@@ -1,4 +1,4 @@
-use Rattle.causal_audit.proofs.Common.{◌≡◌, Bool, true, false, arith, ◌&&◌, ◌⊎◌, not, nat_cmp_total, contains-difference, nat_tests, Entry, Pid, Send, Deliver, Stable, Crash, Restart, Forget, refl}
+use Rattle.causal_audit.proofs.Common.{◌≡◌, Bool, true, false, arith, ◌&&◌, ◌⊎◌, not, nat_cmp_total, contains-difference, nat_tests, Entry, Pid, Crash, refl}
 use Rattle.causal_trace.specs.Laws.{is_crash}
 use Rattle.causal_audit.proofs.group.copies.changed_places.Goals as goal
 
@@ -6,12 +6,8 @@ and_missing : (a b : Bool) → (a && not b) ≡ false → (a ≡ false) ⊎ (b �
 and_missing a b h = grind (arith, nat_tests)
 
 no_crash : (e : Entry) → ((who : Pid) → e ≡ Crash who → ⊥) → is_crash e ≡ false
-no_crash (Send from to ssn) none = refl
-no_crash (Deliver to send rsn listed) none = refl
-no_crash (Stable det) none = refl
 no_crash (Crash who) none = absurd (none who refl)
-no_crash (Restart who listed) none = refl
-no_crash (Forget who listed) none = refl
+no_crash e none = refl
 
 pub returns-in_default : goal.returns-in_default
 returns-in_default c = record {

@@ -1,12 +1,7 @@
-use Rattle.std.proofs.Common.{arith}
 use Rattle.causal_audit.proofs.Common.{◌≡◌, ◌∙◌, ◌<◌, length, sym, ap, subst, rules, set, nat_cmp, contains, remove, contains-empty, get_or_default}
 use Rattle.causal_audit.specs.Inside.Group.Walk.{AreCopiesAfter, copies_at, no_copies}
 use Rattle.causal_audit.proofs.group.GroupWalk.{renewed_more, HaveRenewed}
-use Rattle.causal_audit.proofs.group.GroupReach.{fewer}
 use Rattle.causal_audit.proofs.group.copies.update_copies.Goals as goal
-
-pub loop-place-smaller : goal.loop-place-smaller
-loop-place-smaller c = grind (arith, fewer)
 
 pub loop-place-preserved : goal.loop-place-preserved
 loop-place-preserved c =

@@ -1,4 +1,4 @@
-use Rattle.causal_audit.proofs.Common.{◌≡◌, ◌+◌, ◌++◌, ◌∷◌, [], inl, inr, ◌∙◌, arith, sym, subst, true, ◌↔◌, ◌⊎◌, get_or, take, take_all, contains, Contains, Contains-push, Contains-push_cases, Contains-append_left}
+use Rattle.causal_audit.proofs.Common.{◌≡◌, ◌+◌, ◌++◌, ◌∷◌, [], ◌∙◌, arith, sym, subst, true, ◌↔◌, ◌⊎◌, get_or, take, take_all, contains, Contains, Contains-push, Contains-push_cases, Contains-append_left}
 use Rattle.std.proofs.lemmas.List.{take_more}
 use Rattle.causal_audit.specs.Inside.Group.Walk.{row}
 use Rattle.causal_audit.proofs.group.marks.mark_rows.Goals as goal
@@ -12,15 +12,10 @@ loop-position-preserved c = record {
       let at = c.args.start + i in
       let put = c.in_ok-put.ensures.put i j (omega (arith, low, c.loop-position.invariant.count)) in
       let was = c.loop-position.invariant.marked i j low in
+      let last : at ≡ here → Contains (so_far ++ here ∷ []) at = λ is. subst (Contains (so_far ++ here ∷ [])) (sym is) (Contains-push so_far here) in
       rw (take_more c.args.positions.now c.loop-position.position-index 0 c.loop-position-test.true) (
-        λ h. elim (put.0 h) [
-          | inl old ↦ elim (was.0 old) [ inl had ↦ inl had | inr is ↦ inr (is.0, Contains-append_left so_far (here ∷ []) at is.1) ]
-          | inr new ↦ inr (new.0, subst (Contains (so_far ++ here ∷ [])) (sym new.1) (Contains-push so_far here))
-        ],
-        λ h. put.1 (elim h [
-          | inl had ↦ inl (was.1 (inl had))
-          | inr is ↦ elim (Contains-push_cases so_far here at is.1) [ inl old ↦ inl (was.1 (inr (is.0, old))) | inr new ↦ inr (is.0, sym new) ]
-        ]),
+        λ h. grind (arith, put.0 h, was.0, last, Contains-append_left so_far (here ∷ []) at),
+        λ h. grind (arith, h, put.1, was.1, Contains-push_cases so_far here at),
       );
 }
 

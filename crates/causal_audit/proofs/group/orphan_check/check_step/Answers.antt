@@ -1,18 +1,8 @@
 use Rattle.causal_audit.proofs.Common.{◌≡◌, ◌≤◌, ◌∙◌, arith, inl, inr, sym, ap, subst, ℕ, false, contains, contains-empty, nat_cmp, ◌+◌, and_parts, and_from, instant, HasOrphan, false≢true}
 use Rattle.causal_audit.specs.Inside.Group.Walk.{position_at, opened_at, IsSuspect, IsBreachOfPlace}
-use Rattle.causal_audit.proofs.group.GroupWalk.{among_opened, asked_less, judged_over, found_next, in_or_out, judged_none, judged_more, least_in_all, none_over, suspect}
+use Rattle.causal_audit.proofs.group.GroupWalk.{among_opened, asked_less, judged_over, found_next, in_or_out, judged_more, least_in_all, none_over, suspect}
 use Rattle.causal_trace.proofs.Lemmas.AtInstants.{up_to_next}
-use Rattle.causal_audit.proofs.group.GroupReach.{fewer}
 use Rattle.causal_audit.proofs.group.orphan_check.check_step.Goals as goal
-
-pub loop-least-init : goal.loop-least-init
-loop-least-init c = grind (arith, judged_none)
-
-pub loop-least-smaller : goal.loop-least-smaller
-loop-least-smaller c = grind (arith, fewer)
-
-pub loop-least-smaller-then-delivery-step : goal.loop-least-smaller-then-delivery-step
-loop-least-smaller-then-delivery-step c = grind (arith, fewer)
 
 pub loop-least-preserved-then-delivery-step : goal.loop-least-preserved-then-delivery-step
 loop-least-preserved-then-delivery-step c =

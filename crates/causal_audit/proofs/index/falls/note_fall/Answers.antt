@@ -3,7 +3,7 @@ use Rattle.causal_audit.specs.Inside.Index.Falls.{AreFalls}
 use Rattle.causal_audit.specs.Inside.Index.Lists.{with_added}
 use Rattle.causal_audit.proofs.Shown.{counted, down_members, few_members}
 use Rattle.causal_audit.proofs.index.DownCounts.{falls_more, falls_same}
-use Rattle.causal_audit.proofs.index.Filings.{on_ok}
+use Rattle.std.proofs.lemmas.Result.{on_ok_weaker}
 use Rattle.causal_audit.proofs.index.falls.note_fall.Goals as goal
 
 pub push_to_list-requires : goal.push_to_list-requires
@@ -11,7 +11,7 @@ push_to_list-requires c = omega (arith, c.requires, c.len.ensures.counted, few_m
 
 pub returns-in-Restart-clause-falls : goal.returns-in-Restart-clause-falls
 returns-in-Restart-clause-falls c =
-    on_ok c.push_to_list.result (λ added past long shown are.
+    on_ok_weaker c.push_to_list.result (λ added past long shown are.
     let lists = map (λ list. list.items) c.args.lists.now.items in
     let there : len c.args.down < length lists = omega (arith, c.requires, few_members c.args.down c.len.ensures.members, length-map c.args.lists.now.items (λ list. list.items)) in
     subst (AreFalls (c.args.entry.now ∷ past)) (sym (added ∙ ap (λ m. with_added lists m c.args.i) c.len.ensures.counted ∙ ap (with_added lists (len c.args.down)) (sym long)))

@@ -1,4 +1,4 @@
-use Rattle.causal_audit.proofs.Common.{◌≡◌, ◌+◌, ◌≤◌, List, [], ◌∷◌, length, reverse, reverse-append, reverse-reverse, ◌∙◌, length-append, ap, arith, sym, subst, take, instant, accepted_then, listed_by, listed_in, Entry, Send, Deliver, Stable, Crash, Restart, Forget}
+use Rattle.causal_audit.proofs.Common.{◌≡◌, ◌+◌, ◌≤◌, List, [], ◌∷◌, length, reverse, reverse-append, reverse-reverse, ◌∙◌, length-append, ap, arith, sym, subst, take, instant, accepted_then, listed_by, listed_in, Entry, Send}
 use Rattle.std.proofs.lemmas.Grind.{flat_map-append}
 use Rattle.std.proofs.lemmas.List.Concat.{length-flat_map}
 use Rattle.causal_trace.proofs.Lemmas.WellFormed.{accepted_short}
@@ -6,7 +6,6 @@ use Rattle.std.specs.List.{flat_map}
 use Rattle.std.proofs.lemmas.Result.{IfOk-weaker}
 use Rattle.causal_trace.specs.Numbers.{delivered_dets}
 use Rattle.causal_trace.specs.Past.{mentioned_dets}
-use Rattle.causal_audit.specs.Inside.Index.Lists.{AreNumbersOf}
 use Rattle.causal_audit.specs.Inside.Index.RunIndexes.{IsMentionIndex}
 use Rattle.causal_audit.proofs.Steps.{begins}
 use Rattle.causal_audit.proofs.index.Numbered.{as_many}
@@ -21,11 +20,7 @@ numbers_of-requires c =
 -- an entry mentions what it lists, and a stable entry one determinant
 mentions_few : (e : Entry) → length (mentioned_dets e) ≤ length (listed_by e) + 1
 mentions_few (Send from to ssn) = omega arith
-mentions_few (Deliver to send rsn listed) = omega arith
-mentions_few (Stable det) = omega arith
-mentions_few (Crash who) = omega arith
-mentions_few (Restart who listed) = omega arith
-mentions_few (Forget who listed) = omega arith
+mentions_few _ = omega arith
 
 all_few : (past : List Entry) → length (flat_map mentioned_dets (reverse past)) ≤ listed_in past + length past
 all_few [] = omega arith
@@ -43,15 +38,11 @@ build_mentions-requires-clause-countable c =
     omega (arith, as_many c.lists_needed-among.result delivered (flat_map mentioned_dets entries) c.in_ok-numbers.numbers.items c.in_ok-numbers.ensures, ap (λ es. length (flat_map mentioned_dets es)) read, all_few before, short.entries, short.listed, ap length c.as_slice.ensures.value)
 
 pub build_mentions-requires-clause-numbered : goal.build_mentions-requires-clause-numbered
-build_mentions-requires-clause-numbered c =
-    let delivered = delivered_dets c.args.trace.now.recording.past in
-    (delivered, subst (AreNumbersOf c.lists_needed-among.result delivered (flat_map mentioned_dets (take c.args.end c.entries.result.now))) (sym c.as_slice.ensures.value) c.in_ok-numbers.ensures)
+build_mentions-requires-clause-numbered c = (delivered_dets c.args.trace.now.recording.past, rw c.as_slice.ensures.value c.in_ok-numbers.ensures)
 
 pub returns : goal.returns
 returns c =
     let r = c.args.trace.now.recording in
-    let delivered = delivered_dets r.past in
-    let numbered = subst (AreNumbersOf c.lists_needed-among.result delivered (flat_map mentioned_dets (take c.args.end c.entries.result.now))) (sym c.as_slice.ensures.value) c.in_ok-numbers.ensures in
     IfOk-weaker c.build_mentions.result _ (IsMentionIndex r.past (instant r.past c.args.end)) (λ mentions kept.
-    subst (λ past. IsMentionIndex r.past past mentions) (begins r c.entries.result.now c.entries.ensures.value c.args.end c.requires) (kept delivered numbered))
+    subst (λ past. IsMentionIndex r.past past mentions) (begins r c.entries.result.now c.entries.ensures.value c.args.end c.requires) (kept (delivered_dets r.past) (rw c.as_slice.ensures.value c.in_ok-numbers.ensures)))
     c.build_mentions.ensures

@@ -1,8 +1,7 @@
-use Rattle.causal_audit.proofs.Common.{◌≡◌, ◌+◌, ◌<◌, ◌∷◌, ◌++◌, [], Some, get_or, length, refl, take, drop, sym, ap, subst, ◌∙◌, arith, take_all, append-nil, nil_from_length}
+use Rattle.causal_audit.proofs.Common.{◌≡◌, ◌+◌, ◌<◌, ◌∷◌, ◌++◌, [], get_or, length, refl, take, drop, ap, ◌∙◌, arith, take_all, append-nil, nil_from_length}
 use Rattle.std.proofs.lemmas.List.{drop_more, length-drop, length-set}
-use Rattle.causal_trace.specs.Numbers.{number_of}
 use Rattle.causal_trace.specs.Past.{mentioned_dets}
-use Rattle.causal_audit.specs.Inside.Index.Lists.{AreMentionsWith, list_at, with_added}
+use Rattle.causal_audit.specs.Inside.Index.Lists.{list_at}
 use Rattle.causal_audit.specs.Inside.Index.Packed.{HaveCapacityFor}
 use Rattle.causal_audit.proofs.index.Capacities.{spare_next, spare_added}
 use Rattle.causal_audit.proofs.index.Filings.{mentions_begun, mentions_done, mentions_more}
@@ -20,10 +19,9 @@ pub add-requires : goal.add-requires
 add-requires c =
     let numbers = c.args.numbers.now in
     let i = c.loop-number.number-index in
-    let builder = c.loop-number.builder in
-    let all : HaveCapacityFor builder (drop i numbers ++ []) = c.loop-number.invariant.spare [] (subst (HaveCapacityFor c.args.builder.now) (sym (append-nil numbers)) c.requires.capacity) in
-    let next : drop i numbers ++ [] ≡ get_or numbers i 0 ∷ drop (i + 1) numbers = append-nil (drop i numbers) ∙ drop_more numbers i 0 c.loop-number-test.true in
-    spare_next builder (get_or numbers i 0) (drop (i + 1) numbers) (subst (HaveCapacityFor builder) next all) (omega (arith, c.requires.low i 0 c.loop-number-test.true, c.loop-number.invariant.count))
+    let v = get_or numbers i 0 in
+    let all : HaveCapacityFor c.loop-number.builder (v ∷ drop (i + 1) numbers) = rw (append-nil, drop_more numbers i 0 c.loop-number-test.true) at (c.loop-number.invariant.spare [] (rw append-nil c.requires.capacity)) in
+    spare_next c.loop-number.builder v (drop (i + 1) numbers) all (omega (arith, c.requires.low i 0 c.loop-number-test.true, c.loop-number.invariant.count))
 
 pub loop-number-preserved : goal.loop-number-preserved
 loop-number-preserved c =
@@ -36,28 +34,23 @@ loop-number-preserved c =
     record {
       count = ap length c.add.ensures.added ∙ length-set builder.lists v (list_at builder.lists v ++ c.args.i ∷ []) ∙ so_far.count;
       spare = λ rest fits.
-          let next : drop i numbers ++ rest ≡ v ∷ (drop (i + 1) numbers ++ rest) = ap (λ xs. xs ++ rest) (drop_more numbers i 0 c.loop-number-test.true) in
-          spare_added builder c.add.new.self v c.args.i (drop (i + 1) numbers ++ rest) (subst (HaveCapacityFor builder) next (so_far.spare rest fits)) there c.add.ensures.added c.add.ensures.capacities;
+          spare_added builder c.add.new.self v c.args.i (drop (i + 1) numbers ++ rest) (rw (drop_more numbers i 0 c.loop-number-test.true) at (so_far.spare rest fits)) there c.add.ensures.added c.add.ensures.capacities;
       noted = λ past delivered dets long numbered are.
-          let many = length c.args.builder.now.lists in
-          let next = next_numbered many delivered dets numbers i numbered c.loop-number-test.true in
-          let at : number_of (length builder.lists) delivered next.0 ≡ Some v = subst (λ n. number_of n delivered next.0 ≡ Some v) (sym so_far.count) next.2 in
-          let more = mentions_more past (take i dets) delivered builder.lists next.0 v at there (so_far.noted past delivered dets long numbered are) in
-          subst (λ ds. AreMentionsWith past ds delivered c.add.new.self.lists) (sym next.1)
-          (subst (AreMentionsWith past (take i dets ++ next.0 ∷ []) delivered) (sym (c.add.ensures.added ∙ ap (with_added builder.lists v) (sym long))) more);
+          let next = next_numbered (length c.args.builder.now.lists) delivered dets numbers i numbered c.loop-number-test.true in
+          rw (next.1, c.add.ensures.added, ← long)
+          (mentions_more past (take i dets) delivered builder.lists next.0 v (rw so_far.count next.2) there (so_far.noted past delivered dets long numbered are));
     }
 
 pub returns-clause-noted : goal.returns-clause-noted
 returns-clause-noted c past delivered entry long numbered are =
     let dets = mentioned_dets entry in
-    let lists = c.loop-number.builder.lists in
     let i = c.loop-number.number-index in
     let all : take i dets ≡ dets = take_all i dets (omega (arith, c.loop-number-test.false, as_many (length c.args.builder.now.lists) delivered dets c.args.numbers.now numbered)) in
-    mentions_done entry past delivered lists (subst (λ ds. AreMentionsWith past ds delivered lists) all (c.loop-number.invariant.noted past delivered dets long numbered are))
+    mentions_done entry past delivered c.loop-number.builder.lists (rw all at (c.loop-number.invariant.noted past delivered dets long numbered are))
 
 pub returns-clause-spare : goal.returns-clause-spare
 returns-clause-spare c rest fits =
     let numbers = c.args.numbers.now in
     let i = c.loop-number.number-index in
     let none : drop i numbers ≡ [] = nil_from_length (drop i numbers) (omega (arith, length-drop i numbers, c.loop-number-test.false)) in
-    subst (λ xs. HaveCapacityFor c.loop-number.builder (xs ++ rest)) none (c.loop-number.invariant.spare rest fits)
+    rw none at (c.loop-number.invariant.spare rest fits)

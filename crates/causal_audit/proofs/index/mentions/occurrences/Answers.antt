@@ -10,12 +10,8 @@ loop-number-init c = grind (arith, common_steps, none_counted)
 
 pub overflow_add-index_mut : goal.overflow_add-index_mut
 overflow_add-index_mut c =
-    let counts = c.loop-number.counts.items in
-    let numbers = c.args.numbers.now in
     let i = c.loop-number.number-index in
-    let there : get_or numbers i 0 < length counts = omega (arith, c.requires.low i 0 c.loop-number-test.true, c.loop-number.invariant.many) in
-    let is = c.index_mut.ensures.value ∙ get_or_default counts (get_or numbers i 0) c.index_mut.result.now 0 there in
-    omega (arith, is, counted_few counts numbers i c.loop-number-test.true c.loop-number.invariant.each there, c.loop-number-test.true, c.requires.few)
+    grind (arith, get_or_default, counted_few c.loop-number.counts.items c.args.numbers.now i c.loop-number-test.true c.loop-number.invariant.each, c.requires.low i 0 c.loop-number-test.true)
 
 pub loop-number-preserved : goal.loop-number-preserved
 loop-number-preserved c =

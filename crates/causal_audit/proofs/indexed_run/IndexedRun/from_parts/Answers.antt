@@ -1,4 +1,4 @@
-use Rattle.causal_audit.proofs.Common.{◌≡◌, sym, ap, subst, ◌∙◌, arith, entries_of, Recording, instant}
+use Rattle.causal_audit.proofs.Common.{◌≡◌, sym, ap, subst, ◌∙◌, entries_of, Recording, instant}
 use Rattle.causal_audit.specs.Numbers.{ArePositions}
 use Rattle.causal_audit.specs.Searches.{SearchScope}
 use Rattle.causal_audit.specs.Inside.Index.Parts.{IsEffectPart, IsTransitionPart}
@@ -14,15 +14,4 @@ invariant_of-result c =
     let effects = subst (λ (x : Recording). IsEffectPart x c.effects.inside.departures.items c.effects.inside.reached.items) (c.effects.view_is ∙ c.requires.effects ∙ sym run) c.effects.invariant in
     let read : c.entries-entries.result.now ≡ entries_of r = c.entries-entries.ensures.value ∙ ap entries_of (c.requires.same ∙ sym run) in
     let numbered : ArePositions (instant r.past end) c.in_ok-positions.positions.items = subst (λ past. ArePositions past c.in_ok-positions.positions.items) (begins r c.entries-entries.result.now read end c.prefix.invariant.within) c.in_ok-positions.ensures in
-    record {
-      indexed = record { turned = turned.turned; mentioned = c.prefix.invariant.mentioned };
-      searched = record {
-        formed = turned.formed;
-        within = c.prefix.invariant.within;
-        short = turned.short;
-        mentioned = c.prefix.invariant.mentioned;
-        staying = effects.staying;
-        reaching = effects.reaching;
-        numbered = numbered;
-      };
-    }
+    assumption (turned, effects, numbered)

@@ -1,4 +1,4 @@
-use Rattle.causal_audit.proofs.Common.{◌≡◌, sym, ap, subst, ◌∙◌, arith, entries_of, Recording, instant}
+use Rattle.causal_audit.proofs.Common.{◌≡◌, sym, ap, subst, ◌∙◌, entries_of, Recording, instant}
 use Rattle.causal_audit.specs.Numbers.{ArePositions}
 use Rattle.causal_audit.specs.Searches.{SearchScope}
 use Rattle.causal_audit.specs.Inside.Group.OpenDeliveries.{IsIndexedRun}
@@ -13,15 +13,4 @@ invariant_of-result c =
     let kept = subst (λ (x : Recording). IsIndexedRun x c.self.inside.end c.self.inside.index c.self.inside.departures.items c.self.inside.reached.items c.self.inside.positions.items) (ap (λ (s : SearchScope). s.run) c.self.view_is ∙ c.requires.run ∙ sym run) c.self.invariant in
     let read : c.entries-entries.result.now ≡ entries_of r = c.entries-entries.ensures.value ∙ ap entries_of (c.requires.same ∙ sym run) in
     let numbered : ArePositions (instant r.past end) c.in_ok-positions.positions.items = subst (λ past. ArePositions past c.in_ok-positions.positions.items) (begins r c.entries-entries.result.now read end c.prefix.invariant.within) c.in_ok-positions.ensures in
-    record {
-      indexed = record { turned = kept.indexed.turned; mentioned = c.prefix.invariant.mentioned };
-      searched = record {
-        formed = kept.searched.formed;
-        within = c.prefix.invariant.within;
-        short = kept.searched.short;
-        mentioned = c.prefix.invariant.mentioned;
-        staying = kept.searched.staying;
-        reaching = kept.searched.reaching;
-        numbered = numbered;
-      };
-    }
+    assumption (kept, numbered)

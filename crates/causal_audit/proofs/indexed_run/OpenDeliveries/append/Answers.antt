@@ -1,6 +1,6 @@
 use Rattle.causal_audit.proofs.Common.{◌≡◌, ◌++◌, sym, ap, subst, ◌∙◌, arith, map-append}
 use Rattle.causal_audit.specs.Parts.{FollowedDeliveries}
-use Rattle.causal_audit.specs.Searches.{SearchScope, IncludeUnsafe, scope_of, search_scope}
+use Rattle.causal_audit.specs.Searches.{SearchScope, scope_of, search_scope}
 use Rattle.causal_audit.specs.Inside.Group.OpenDeliveries.{AreFollowed, positions_of}
 use Rattle.causal_audit.proofs.group.OpenPositions.{position}
 use Rattle.causal_audit.proofs.safety_scan.SurveyAsks.{both_followed, parts_joined}
@@ -21,11 +21,9 @@ returns c scope from mid to second first =
     let a = c.self.inside in
     let b = c.earlier.inside in
     let items : c.extend_from_slice.new.self.items ≡ a.candidates.items ++ b.candidates.items = grind arith in
-    let later : positions_of a.candidates.items ≡ c.args.self.positions = ap (λ (x : FollowedDeliveries). x.positions) c.self.view_is in
-    let earlier : positions_of b.candidates.items ≡ c.args.earlier.positions = ap (λ (x : FollowedDeliveries). x.positions) c.earlier.view_is in
     let positions : positions_of c.extend_from_slice.new.self.items ≡ c.args.self.positions ++ c.args.earlier.positions =
-    ap positions_of items ∙ map-append position a.candidates.items b.candidates.items ∙ ap (λ xs. xs ++ positions_of b.candidates.items) later ∙ ap (λ xs. c.args.self.positions ++ xs) earlier in
+    grind (arith, map-append position a.candidates.items b.candidates.items, ap (λ (x : FollowedDeliveries). x.positions) c.self.view_is, ap (λ (x : FollowedDeliveries). x.positions) c.earlier.view_is) in
     record {
       of = ap scope_of c.self.view_is ∙ second.of;
-      all = subst (IncludeUnsafe scope from to) (sym positions) (parts_joined scope from mid to c.args.self.positions c.args.earlier.positions second.all first.all);
+      all = rw positions (parts_joined scope from mid to c.args.self.positions c.args.earlier.positions second.all first.all);
     }

@@ -1,4 +1,4 @@
-use Rattle.causal_audit.proofs.Common.{◌≡◌, ◌-◌, take, drop, ap, subst, sym, ◌∙◌, arith, take-map, drop-map, All-drop, All-take, Recording}
+use Rattle.causal_audit.proofs.Common.{◌≡◌, ◌-◌, take, drop, ap, sym, ◌∙◌, arith, take-map, drop-map, All-drop, All-take, Recording}
 use Rattle.causal_audit.specs.Parts.{FollowedDeliveries}
 use Rattle.causal_audit.specs.declared.group.walk_input.OpenDelivery.{OpenDelivery}
 use Rattle.causal_audit.specs.Inside.Group.OpenDeliveries.{AreOpenDeliveries, IsDeliveryAt, IsOpenDelivery}
@@ -20,11 +20,8 @@ invariant_of-result c =
       within = followed.within;
       deliveries = All-take (is_of_delivery r) many (drop from candidates) (All-drop (is_of_delivery r) from candidates followed.deliveries);
       none_later = All-take (IsOpenDelivery r s.f s.end) many (drop from candidates) (All-drop (IsOpenDelivery r s.f s.end) from candidates followed.none_later);
-    } in (
-      subst (λ (x : Recording). AreOpenDeliveries x s.f s.end (take many (drop from c.deref.result.now))) same
-          (subst (λ list. AreOpenDeliveries r s.f s.end (take many (drop from list))) (sym c.deref.ensures.value) part),
-      omega arith,
-    )
+    } in
+    (rw (← same, c.deref.ensures.value) part, omega arith)
 
 pub returns : goal.returns
 returns c = grind (arith, take-map, drop-map)

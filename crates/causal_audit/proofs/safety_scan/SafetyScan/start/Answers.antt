@@ -1,4 +1,5 @@
 use Rattle.causal_audit.proofs.Common.{◌≤◌, length, ◌∙◌, arith, instant, logs}
+use Rattle.causal_audit.specs.Inside.DeliveryStates.{HasExactly}
 use Rattle.causal_audit.proofs.by_clock.Begun.{unheard_before}
 use Rattle.causal_audit.proofs.Steps.{entry_then}
 use Rattle.causal_audit.proofs.Shown.{shows_none}
@@ -16,11 +17,5 @@ returns-clause-scan_position c =
     unheard_before past t look.det t
     (λ v e above below at. look.mentioned v e (entry_then past look.end v (omega (arith, below, inside)) look.within ∙ at) (c.first_or_end-t.ensures.none v above below)) (omega arith) within in
     let walk = passed_down past look.run.transitions.now t c.cursor_at-transitions.result look.run.turned c.cursor_at-transitions.ensures in
-    record {
-      within = omega (arith, c.first_or_end-t.ensures.before, c.requires);
-      mentions = c.new.ensures;
-      transitions = c.cursor_at-transitions.ensures.over;
-      down = c.down.ensures past t within walk.0 walk.1;
-      holders = rw c.none.ensures (shows_none (λ p. logs (instant past t) p look.det) unheard.unlogged);
-      stands = c.safety-safety.ensures;
-    }
+    let holders : HasExactly c.none.result (λ p. logs (instant past t) p look.det) = rw c.none.ensures (shows_none (λ p. logs (instant past t) p look.det) unheard.unlogged) in
+    assumption (inside, holders, c.down.ensures past t within walk.0 walk.1)

@@ -6,6 +6,3 @@ use Rattle.causal_audit.proofs.group.reach.ReachSets.reaching_places.Goals as go
 pub returns-then-position-self : goal.returns-then-position-self
 returns-then-position-self c =
     subst (AreReachingPlaces c.args.self.now c.args.position) (sym c.none.ensures) (told_before c.args.self.now c.args.position (omega (arith, c.if-position-self.true)))
-
-pub returns : goal.returns
-returns c = rw c.get.ensures (λ n past k j from to ssn formed is at. is.behind c.args.position from to ssn (omega (arith, c.if-position-self.false)) at)

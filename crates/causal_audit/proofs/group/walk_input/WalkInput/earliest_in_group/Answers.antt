@@ -1,6 +1,5 @@
 use Rattle.causal_audit.proofs.Common.{◌≤◌, inl, length, sym, subst, arith, All, All-permutation, Contains-permutation, IsPermutation-map, IsPermutation-sym, instant, HasOrphan, instant_length}
 use Rattle.std.specs.Prelude.{IsPermutation}
-use Rattle.std.proofs.lemmas.List.Sorted.{length_permutation}
 use Rattle.causal_audit.proofs.group.OpenPositions.{position, zero}
 use Rattle.causal_audit.specs.Inside.Among.{EarliestAmongBy}
 use Rattle.causal_audit.specs.Inside.Group.Walk.{HaveNoOrphans, position_at}
@@ -10,12 +9,6 @@ use Rattle.causal_audit.proofs.AmongLemmas.{among_later, among_wider}
 use Rattle.causal_audit.proofs.group.GroupWalk.{place_of}
 use Rattle.causal_audit.proofs.NoOrphanSoFar.{not_yet}
 use Rattle.causal_audit.proofs.group.walk_input.WalkInput.earliest_in_group.Goals as goal
-
-pub prepare_walk-requires-clause-few : goal.prepare_walk-requires-clause-few
-prepare_walk-requires-clause-few c = grind (arith, length_permutation)
-
-pub walk_group-requires-clause-few : goal.walk_group-requires-clause-few
-walk_group-requires-clause-few c = grind (arith, length_permutation)
 
 pub walk_group-requires-clause-none : goal.walk_group-requires-clause-none
 walk_group-requires-clause-none c =

@@ -1,16 +1,12 @@
-use Rattle.causal_audit.proofs.Common.{◌≡◌, ◌≤◌, true, length, sym, subst, arith, contains, instant, is_down, logs, instant_length}
+use Rattle.causal_audit.proofs.Common.{◌≡◌, ◌≤◌, true, length, sym, subst, arith, contains, instant, logs, instant_length}
 use Rattle.causal_audit.proofs.group.OpenPositions.{zero}
 use Rattle.causal_audit.specs.Inside.Group.Walk.{AreDetCopies, RowsShowReach, position_at}
 use Rattle.causal_audit.specs.Inside.Group.OpenDeliveries.{RunUpTo}
-use Rattle.causal_audit.specs.Inside.DeliveryStates.{HasExactly}
 use Rattle.causal_audit.proofs.Shown.{shows_none}
 use Rattle.causal_audit.proofs.group.GroupReach.{begun, none_in}
 use Rattle.causal_audit.proofs.by_clock.Begun.{unheard_before}
 use Rattle.causal_audit.proofs.index.DownAfterTurns.{passed_down}
 use Rattle.causal_audit.proofs.group.walk_input.WalkInput.prepare_walk.Goals as goal
-
-pub mark_mentions-requires-clause-none : goal.mark_mentions-requires-clause-none
-mark_mentions-requires-clause-none c i j inside h = grind (arith, none_in)
 
 pub returns-clause-begun : goal.returns-clause-begun
 returns-clause-begun c = let r = c.args.self.now.run in
@@ -23,7 +19,6 @@ returns-clause-begun c = let r = c.args.self.now.run in
     let within : start ≤ length run.past = omega (arith, c.requires.ordered, inside, c.self.invariant.within) in
     let rows = c.mark_mentions.new.rows in
     let early : start ≤ length r.past = subst (λ (s : RunUpTo). start ≤ length s.run.past) c.self.view_is within in
-    let shown : HasExactly c.down-buffers.result (λ p. is_down (instant r.past start) p) = grind arith in
     record {
       start_is = c.in_ok-begin.ensures.rows.start;
       told = λ j d low at.
@@ -36,5 +31,5 @@ returns-clause-begun c = let r = c.args.self.now.run in
           subst (AreDetCopies (instant r.past start) d) (sym (c.clear_copies.ensures.none j (omega (arith, low, c.requires.few, c.requires.buffers.copies))))
           (record { holders = shows_none (λ p. logs (instant r.past start) p d) none.unlogged; stable = sym none.unstable });
       held = λ j d low at p h. absurd (none_in j (subst (λ s. contains s j ≡ true) (c.clear.ensures.none p) h));
-      down = shown;
+      down = grind arith;
     }

@@ -1,8 +1,9 @@
 use Rattle.std.proofs.lemmas.Grind.{common_steps}
 use Rattle.std.proofs.lemmas.List.Sums.{sum_by_more}
-use Rattle.causal_audit.proofs.Common.{◌≡◌, ◌+◌, ◌-◌, [], ◌∷◌, ◌++◌, get_or, sym, ap, ◌∙◌, arith, length, take, length-append, take_more, All-nil}
+use Rattle.causal_audit.proofs.Common.{◌≡◌, ◌+◌, ◌-◌, [], ◌∷◌, ◌++◌, get_or, sym, ap, ◌∙◌, arith, length, take, length-append, take_more, All-nil, All-push, refl}
+use Rattle.causal_audit.specs.declared.index.packed_lists.ListSpan.{ListSpan}
 use Rattle.causal_audit.specs.Inside.Index.Packed.{list_capacities}
-use Rattle.causal_audit.proofs.index.PackedSpans.{none_in, none_push, packed_push, capacities_push}
+use Rattle.causal_audit.proofs.index.PackedSpans.{none_in, packed_push, capacities_push}
 use Rattle.causal_audit.proofs.index.packed_lists.PackedListsBuilder.with_capacities.Goals as goal
 
 pub loop-capacity-init : goal.loop-capacity-init
@@ -21,7 +22,7 @@ loop-capacity-preserved c =
     record {
       count = omega (arith, so_far.count, ap length is, length-append spans (record { begin = b; end = b } ∷ []));
       begin = omega (arith, so_far.begin, sum_by_more (λ n. n) all i 0 c.loop-capacity-test.true);
-      empty = none_push b spans c.push.new.self.items is so_far.empty;
+      empty = rw is (All-push (λ (s : ListSpan). s.begin ≡ s.end) spans (record { begin = b; end = b }) so_far.empty refl);
       packed = packed_push b (b + x) spans c.push.new.self.items is (omega arith) so_far.packed;
       capacities = ap (list_capacities (b + x)) is ∙ capacities_push b (b + x) spans ∙ ap (λ xs. xs ++ ((b + x) - b) ∷ []) so_far.capacities ∙ ap (λ n. take i all ++ n ∷ []) less ∙ sym (take_more all i 0 c.loop-capacity-test.true);
     }

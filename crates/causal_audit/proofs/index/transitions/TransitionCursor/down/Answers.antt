@@ -1,9 +1,6 @@
 use Rattle.std.proofs.Common.{◌-◌, arith}
-use Rattle.causal_audit.proofs.index.DownAfterTurns.{none_turned, last_turned}
+use Rattle.causal_audit.proofs.index.DownAfterTurns.{last_turned}
 use Rattle.causal_audit.proofs.index.transitions.TransitionCursor.down.Goals as goal
-
-pub returns-then-self-eq0 : goal.returns-then-self-eq0
-returns-then-self-eq0 c past t within are walk = grind (arith, none_turned)
 
 pub returns : goal.returns
 returns c past t within are walk =

@@ -1,11 +1,11 @@
 use Rattle.causal_audit.proofs.Common.{◌∷◌, is_down}
 use Rattle.causal_audit.specs.Inside.DeliveryStates.{HasExactly}
-use Rattle.causal_audit.proofs.index.Filings.{on_ok}
+use Rattle.std.proofs.lemmas.Result.{on_ok_weaker}
 use Rattle.causal_audit.proofs.index.transitions.TransitionsBuilder.note.Goals as goal
 
 pub returns : goal.returns
 returns c =
-    on_ok c.note_fall.result (λ fallen past long filed.
+    on_ok_weaker c.note_fall.result (λ fallen past long filed.
     let shown : HasExactly c.down_after-self.result (λ p. is_down (c.args.entry.now ∷ past) p) = c.down_after-self.ensures past filed.down in
     record {
       down = shown;

@@ -17,8 +17,5 @@ returns-then-is_subset c =
     let holders = c.args.self.now.holders in
     let reached = c.args.reached in
     let all : is_subset reached (union down holders) ≡ true = subst (λ s. is_subset reached s ≡ true) c.down_or_holding.ensures (sym c.is_subset.ensures ∙ c.if-is_subset.true) in
-    let one = c.minus.ensures in
-    let other = c.minus-then-is_subset.ensures in
-    let both = c.union.ensures in
-    let same : c.union.result ≡ union holders (difference down (difference down reached)) = cc in
+    let same : c.union.result ≡ union holders (difference down (difference down reached)) = cc (c.minus.ensures, c.minus-then-is_subset.ensures, c.union.ensures) in
     rw (c.in-Safe.is, same) (watched_reached c.args.most c.args.receiver reached down holders all)

@@ -1,7 +1,6 @@
-use Rattle.causal_audit.proofs.Common.{◌≡◌, ◌<◌, ◌≤◌, inl, inr, cases_lt, None, Some, length, instant, det_then, sym, subst, ◌∙◌, arith, AreLegalEntries}
+use Rattle.causal_audit.proofs.Common.{◌≡◌, ◌<◌, ◌≤◌, cases_lt, None, Some, length, instant, det_then, sym, subst, ◌∙◌, arith, AreLegalEntries}
 use Rattle.causal_trace.specs.Numbers.{delivered_dets, number_of}
 use Rattle.causal_trace.proofs.Lemmas.DeliveryNumbers.{number_among, found_below}
-use Rattle.causal_audit.specs.Numbers.{IsNumbered}
 use Rattle.causal_audit.specs.Searches.{SearchScope, delivery_count}
 use Rattle.causal_audit.proofs.index.Filings.{number_of_found}
 use Rattle.causal_audit.proofs.DeliveryNumbers.{numbered_later}
@@ -11,15 +10,7 @@ use Rattle.causal_audit.proofs.safety_scan.open_delivery_search.OpenDeliverySear
 
 pub check_delivery-requires-clause-few : goal.check_delivery-requires-clause-few
 check_delivery-requires-clause-few c =
-    let count = delivery_count c.args.self.now in
-    let dets = delivered_dets c.args.self.now.run.past in
-    found_below (number_of count dets c.args.det) count c.args.newest (number_among count dets c.args.det) c.requires.newest
-
-pub check_delivery-requires-clause-own : goal.check_delivery-requires-clause-own
-check_delivery-requires-clause-own c = number_of_found (delivery_count c.args.self.now) (delivered_dets c.args.self.now.run.past) c.args.det c.args.newest c.requires.newest
-
-pub check_delivery-requires-in-Some : goal.check_delivery-requires-in-Some
-check_delivery-requires-in-Some c = grind (arith, found_below, number_of_found)
+    found_below _ _ c.args.newest (number_among (delivery_count c.args.self.now) (delivered_dets c.args.self.now.run.past) c.args.det) c.requires.newest
 
 pub loop-older-init : goal.loop-older-init
 loop-older-init c =
@@ -33,8 +24,7 @@ loop-older-init c =
       own = number_of_found count dets c.args.det newest c.requires.newest;
       more = c.in_ok-check_delivery.ensures.more;
       told = λ i k from below numbered at.
-          let same : i ≡ newest = omega (arith, from, no_newer scope formed i k c.args.det numbered at newest below c.requires.newest) in
-          c.in_ok-check_delivery.ensures.listed k (subst (λ n. IsNumbered scope.run.past n k) same numbered);
+          grind (arith, numbered, no_newer scope formed i k c.args.det numbered at newest below c.requires.newest, c.in_ok-check_delivery.ensures.listed k);
     }
 
 pub loop-older-preserved : goal.loop-older-preserved
@@ -51,12 +41,8 @@ loop-older-preserved c =
       few = omega (arith, low, was.few);
       own = number_of_found number dets c.args.det older is;
       more = more_twice scope c.args.found.now.items c.loop-older.found.items c.check_delivery-in-Some.new.found.items was.more c.in_ok-check_delivery-2.ensures.more;
-      told = λ i k from below numbered at. elim (cases_lt i number) [
-        | inl under ↦
-            let same : i ≡ older = omega (arith, from, none_between scope formed i k c.args.det numbered at number older under is) in
-            c.in_ok-check_delivery-2.ensures.listed k (subst (λ n. IsNumbered scope.run.past n k) same numbered)
-        | inr over ↦ c.in_ok-check_delivery-2.ensures.more.listed k (was.told i k over below numbered at)
-      ];
+      told = λ i k from below numbered at.
+          grind (arith, numbered, cases_lt i number, none_between scope formed i k c.args.det numbered at number older, is, c.in_ok-check_delivery-2.ensures.listed k, c.in_ok-check_delivery-2.ensures.more.listed k, was.told i k);
     }
 
 pub returns-clause-listed : goal.returns-clause-listed
