@@ -2,7 +2,6 @@ pub mod HolderLemmas
 pub mod LogLemmas
 pub mod SlotLemmas
 pub mod NumberLemmas
-pub mod CopyLemmas
 pub mod RivalLemmas
 pub mod SurvivorLemmas
 pub mod RunLemmas

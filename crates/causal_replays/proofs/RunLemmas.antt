@@ -1,32 +1,31 @@
 -- What the copies and the slots say of a run.
 use Rattle.std.proofs.Common.{ℕ, ◌≡◌, ◌+◌, ◌<◌, ◌≤◌, inl, inr, Bool, true, false, List, ◌∷◌, length, Option, Some, None, refl, sym, ap, subst, ◌∙◌, arith}
-use Rattle.std.specs.Prelude.{◌||◌, ◌⊎◌, All}
+use Rattle.std.specs.Prelude.{◌||◌, All}
 use Rattle.std.proofs.lemmas.List.Elements.{All-weaker}
 use Rattle.std.specs.Global.{Vec}
 use Rattle.std.specs.Option.{is_some}
-use Rattle.std.proofs.lemmas.Bool.{cases_lt, false≢true, or_cases}
+use Rattle.std.proofs.lemmas.Bool.{false≢true, or_cases}
 use Rattle.causal_name.specs.declared.Det.{Det}
 use Rattle.causal_name.specs.declared.Slot.{Slot}
+use Rattle.causal_name.specs.Names.{slot_of}
 use Rattle.causal_name.specs.Sets.{any_below}
 use Rattle.causal_holders.proofs.Lemmas.MemberCounts.{any_below-found}
 use Rattle.causal_trace.specs.declared.entry.Entry.{Entry}
 use Rattle.causal_trace.specs.Past.{instant, logs, is_stable, is_delivered, det_at, deliveries_in, list_has, mentioned_dets}
 use Rattle.causal_trace.specs.Rows.{Recording, AreLegalEntries, IsWellFormed, first_fault}
 use Rattle.causal_trace.specs.Survivors.{survives, SlotsAreSingle}
-use Rattle.causal_trace.proofs.Lemmas.AtInstants.{accepted_then, instant_length, det_then, det_within, no_entry}
+use Rattle.causal_trace.proofs.Lemmas.AtInstants.{accepted_then, instant_length, det_then, det_within, delivered_in, no_entry}
 use Rattle.causal_trace.proofs.Lemmas.DeliveryNumbers.{delivered_numbered, listed_once}
-use Rattle.causal_replays.specs.Strays.{IsLower, FillsSlot, FirstTwo, LowerAreSingle}
+use Rattle.causal_replays.specs.Strays.{FillsSlot, FirstTwo}
 use Rattle.causal_replays.specs.declared.copies.CopyTable.{CopyTable}
 use Rattle.causal_replays.specs.Inside.Copies.{number_in, is_stored, IsCopyTable, HasNumber, copied_by}
 use Rattle.causal_replays.specs.Inside.Holdings.{holds}
-use Rattle.causal_replays.specs.Inside.Rivals.{IsCopied, IsInSlot, HasRivals, AreNoted, IsCopiedAt, AreFirstTwo, HaveTwo}
+use Rattle.causal_replays.specs.Inside.Rivals.{IsCopied, IsSlotBelow, HasRivals, AreNoted, IsCopiedAt, AreFirstTwo, HaveTwo}
 use Rattle.causal_replays.specs.Inside.Slots.{slot_number}
 use Rattle.causal_replays.proofs.NumberLemmas.{one_det}
 use Rattle.causal_replays.proofs.SurvivorLemmas.{named_delivered, survivor_delivered, logged_survives, stable_survives, survives_step, copied_survives_entry, none_survive}
 use Rattle.causal_trace.proofs.Lemmas.RunProcesses.{logs_inside}
 use Rattle.causal_trace.proofs.Lemmas.DeliveredDets.{found_det, at_delivered}
-
--- ---- instants
 
 -- ---- positions and numbers of survivors
 
@@ -47,7 +46,7 @@ module _ (r : Recording) (formed : IsWellFormed r) (t : ℕ) (within : t ≤ len
   survivor_at d h =
       let found = found_det (instant r.past t) d (survivor_delivered r.processes (instant r.past t) d legal h) in
       let low : found.0 < t = omega (arith, det_within (instant r.past t) found.0 d found.1, instant_length r.past t within) in
-      (found.0, low, sym (det_then r.past t found.0 low within) ∙ found.1)
+      (found.0, low, delivered_in r.past t found.0 d within found.1)
 
   -- exactly the survivors have copies
   pub survivor_copied : (d : Det) → survives r.processes (instant r.past t) d ≡ true → IsCopied r.past c d
@@ -70,31 +69,19 @@ module _ (r : Recording) (formed : IsWellFormed r) (t : ℕ) (within : t ≤ len
         logged_survives r.processes (instant r.past t) held.0 d (logs_inside r.processes (instant r.past t) held.0 d legal logged) logged
   ]
 
-  -- two in one slot are the same
-  one_in_slot : (slots : List (Vec (Option ℕ))) (a b : Det) → IsCopied r.past c a → IsCopied r.past c b → IsInSlot r.past slots a → IsInSlot r.past slots b → a.dest.0 ≡ b.dest.0 → a.rsn ≡ b.rsn → a ≡ b
-  one_in_slot slots a b one other in_a in_b dest rsn =
-      let same : Some one.0 ≡ Some other.0 = sym (in_a one.0 one.1) ∙ ap (λ p. slot_number slots p a.rsn) dest ∙ ap (λ x. slot_number slots b.dest.0 x) rsn ∙ in_b other.0 other.1 in
-      one_det r.past a b other.0 (one.1 ∙ same) other.1
-
-  module _ (slots : List (Vec (Option ℕ))) (test : Det → Bool) (tested : (d : Det) → survives r.processes (instant r.past t) d ≡ true → test d ≡ true) where
-    pub single_now : AreNoted r.past c slots None test → SlotsAreSingle r.processes (instant r.past t)
-    single_now noted a b ha hb dest rsn =
-        let one = survivor_copied a ha in
-        let other = survivor_copied b hb in
-        one_in_slot slots a b one other (noted.in_slots a (tested a ha) one tt) (noted.in_slots b (tested b hb) other tt) (ap (λ p. p.0) dest) rsn
-
-    pub lower_now : (s : Slot) → AreNoted r.past c slots (Some s) test → LowerAreSingle r.processes (instant r.past t) s
-    lower_now s noted a b ha hb same lower =
-        let one = survivor_copied a ha in
-        let other = survivor_copied b hb in
-        one_in_slot slots a b one other (noted.in_slots a (tested a ha) one lower) (noted.in_slots b (tested b hb) other (subst (λ x. IsLower x s) same lower)) (ap (λ (x : Slot). x.dest.0) same) (ap (λ (x : Slot). x.rsn) same)
+  -- two survivors in one slot, below the least one with rivals, are the same
+  pub one_survivor : (slots : List (Vec (Option ℕ))) (test : Det → Bool) → ((d : Det) → survives r.processes (instant r.past t) d ≡ true → test d ≡ true) → (least : Option Slot) → AreNoted r.past c slots least test
+      → (a b : Det) → survives r.processes (instant r.past t) a ≡ true → survives r.processes (instant r.past t) b ≡ true → slot_of a ≡ slot_of b → IsSlotBelow least (slot_of a) → a ≡ b
+  one_survivor slots test tested least noted a b ha hb same below =
+      let one = survivor_copied a ha in
+      let other = survivor_copied b hb in
+      let in_a = noted.in_slots a (tested a ha) one below one.0 one.1 in
+      let in_b = noted.in_slots b (tested b hb) other (subst (IsSlotBelow least) same below) other.0 other.1 in
+      one_det r.past a b other.0 (one.1 ∙ sym in_a ∙ ap (λ (x : Slot). slot_number slots x.dest.0 x.rsn) same ∙ in_b) other.1
 
   -- rivals have deliveries before the instant
   pub two_now : (s : Slot) → HasRivals r.past c s → HaveTwo r.past c s t
-  two_now s rivals =
-      let a = rivals.0 in
-      let b = rivals.1 in
-      let are_rivals = rivals.2 in
+  two_now s (a, b, are_rivals) =
       let at_a = survivor_at a (copied_survives a are_rivals.one) in
       let at_b = survivor_at b (copied_survives b are_rivals.other) in
       record {
@@ -112,11 +99,8 @@ module _ (r : Recording) (formed : IsWellFormed r) (t : ℕ) (within : t ≤ len
   fills_of : (s : Slot) (k : ℕ) (d : Det) → k < t → IsCopiedAt r.past c s k d → FillsSlot r.processes (instant r.past t) s k d
   fills_of s k d low at = record { delivered = det_then r.past t k low within ∙ at.delivered; alive = copied_survives d at.copied; fills = at.fills }
 
-  low_of : (s : Slot) (k : ℕ) (d : Det) → FillsSlot r.processes (instant r.past t) s k d → k < t
-  low_of s k d fill = omega (arith, det_within (instant r.past t) k d fill.delivered, instant_length r.past t within)
-
   copied_of : (s : Slot) (k : ℕ) (d : Det) → FillsSlot r.processes (instant r.past t) s k d → IsCopiedAt r.past c s k d
-  copied_of s k d fill = record { delivered = sym (det_then r.past t k (low_of s k d fill) within) ∙ fill.delivered; copied = survivor_copied d fill.alive; fills = fill.fills }
+  copied_of s k d fill = record { delivered = delivered_in r.past t k d within fill.delivered; copied = survivor_copied d fill.alive; fills = fill.fills }
 
   -- the first two deliveries with copies are those of survivors
   pub pair_now : (s : Slot) (k l : ℕ) → AreFirstTwo r.past c s t k l → FirstTwo r.processes (instant r.past t) s k l
@@ -125,10 +109,10 @@ module _ (r : Recording) (formed : IsWellFormed r) (t : ℕ) (within : t ≤ len
     other = two.two;
     first = first;
     second = second;
-    differ = differ;
-    order = order (cases_lt k l);
+    differ = λ same. two.second.other (ap (λ x. Some x) same);
+    order = grind (arith, none_before l two.two second, first.delivered, second.delivered, two.second.other);
     none_before = none_before;
-    none_between = λ j d fill low. sym (same_det_some two.one d (two.second.first j d low (copied_of s j d fill)));
+    none_between = λ j d fill low. cc (two.second.first j d low (copied_of s j d fill));
   }
     where
       first : FillsSlot r.processes (instant r.past t) s k two.one
@@ -137,24 +121,8 @@ module _ (r : Recording) (formed : IsWellFormed r) (t : ℕ) (within : t ≤ len
       second : FillsSlot r.processes (instant r.past t) s l two.two
       second = fills_of s l two.two two.second.within two.second.here
 
-      differ : two.one ≡ two.two → ⊥
-      differ e = two.second.other (ap (λ x. Some x) e)
-
-      same_det_some : (a b : Det) → Some a ≡ Some b → a ≡ b
-      same_det_some a b e = cc
-
       none_before : (j : ℕ) (d : Det) → FillsSlot r.processes (instant r.past t) s j d → k ≤ j
-      none_before j d fill = elim (cases_lt j k) [
-        | inl low ↦ absurd (let e : None ≡ Some d = two.first.first j d low (copied_of s j d fill) in cc)
-        | inr late ↦ late
-      ]
-
-      order : (k < l) ⊎ (l ≤ k) → k < l
-      order (inl low) = low
-      order (inr late) =
-          let least : k ≤ l = none_before l two.two second in
-          let same : k ≡ l = omega (arith, least, late) in
-          absurd (differ (same_det_some two.one two.two (sym first.delivered ∙ ap (det_at (instant r.past t)) same ∙ second.delivered)))
+      none_before j d fill = grind (arith, two.first.first j d, copied_of s j d fill)
 
 -- ---- the next entry
 
@@ -164,9 +132,7 @@ module _ (r : Recording) (formed : IsWellFormed r) (t : ℕ) (e : Entry) (inside
 
   -- what survives after the entry survived before, or the entry makes a copy of it
   pub tested : (dets : List Det) → dets ≡ copied_by e → (d : Det) → survives r.processes (instant r.past (t + 1)) d ≡ true → (survives r.processes (instant r.past t) d || list_has dets d) ≡ true
-  tested dets are d h =
-      subst (λ x. (survives r.processes (instant r.past t) d || list_has x d) ≡ true) (sym are)
-      (survives_step r.processes (instant r.past t) d e (subst (λ p. survives r.processes p d ≡ true) next h))
+  tested dets are d h = rw are (survives_step r.processes (instant r.past t) d e (rw next at h))
 
   -- what the entry names has a number
   pub named_numbered : All (HasNumber r.past) (mentioned_dets e)
@@ -174,16 +140,14 @@ module _ (r : Recording) (formed : IsWellFormed r) (t : ℕ) (e : Entry) (inside
     where
       numbered : (d : Det) → is_delivered (e ∷ instant r.past t) d ≡ true → HasNumber r.past d
       numbered d h =
-          let at = found_det (instant r.past (t + 1)) d (subst (λ p. is_delivered p d ≡ true) (sym next) h) in
-          let low : at.0 < t + 1 = omega (arith, det_within (instant r.past (t + 1)) at.0 d at.1, instant_length r.past (t + 1) inside) in
-          ap is_some (delivered_number r.past d at.0 (sym (det_then r.past (t + 1) at.0 low inside) ∙ at.1)).1
+          let at = found_det (instant r.past (t + 1)) d (rw next h) in
+          ap is_some (delivered_number r.past d at.0 (delivered_in r.past (t + 1) at.0 d inside at.1)).1
 
   module _ (c now : CopyTable) (copied : IsCopyTable r.past (instant r.past t) c) (copied_now : IsCopyTable r.past (instant r.past (t + 1)) now) where
     -- what the entry makes a copy of has one
     pub listed_copied : (dets : List Det) → dets ≡ copied_by e → (d : Det) → list_has dets d ≡ true → IsCopied r.past now d
     listed_copied dets are d h =
-        survivor_copied r formed (t + 1) inside now copied_now d
-        (subst (λ p. survives r.processes p d ≡ true) (sym next) (copied_survives_entry r.processes (instant r.past t) d e legal_entry (subst (λ x. list_has x d ≡ true) are h)))
+        survivor_copied r formed (t + 1) inside now copied_now d (rw next (copied_survives_entry r.processes (instant r.past t) d e legal_entry (rw are at h)))
 
     -- the earlier survivors stay in their slots
     pub noted_kept : (slots : List (Vec (Option ℕ))) → AreNoted r.past c slots None (survives r.processes (instant r.past t)) → AreNoted r.past now slots None (survives r.processes (instant r.past t))
@@ -200,7 +164,7 @@ module _ (r : Recording) where
   none_yet d h = none_survive r.processes d (subst (λ p. survives r.processes p d ≡ true) (no_entry r.past) h)
 
   pub copied_first : (c : CopyTable) → ((i p : ℕ) → holds c.holders.items i p ≡ false) → ((i : ℕ) → is_stored c.stable.items i ≡ false) → IsCopyTable r.past (instant r.past 0) c
-  copied_first c unheld unstored = subst (λ p. IsCopyTable r.past p c) (sym (no_entry r.past)) (record { held = λ d i p at. unheld i p; stored = λ d i at. unstored i })
+  copied_first c unheld unstored = rw (no_entry r.past) (record { held = λ d i p at. unheld i p; stored = λ d i at. unstored i })
 
   pub noted_first : (c : CopyTable) (slots : List (Vec (Option ℕ))) → ((p s : ℕ) → slot_number slots p s ≡ None) → AreNoted r.past c slots None (survives r.processes (instant r.past 0))
   noted_first c slots none = record {

@@ -170,8 +170,6 @@ pub fn copied_by(entry: &Entry) -> &[Det]
         Entry::Stable { det } => slice::from_ref(det),
         Entry::Deliver { listed, .. } => listed.as_slice(),
         Entry::Restart { listed, .. } => listed.as_slice(),
-        Entry::Forget { .. } => &[],
-        Entry::Send { .. } => &[],
-        Entry::Crash { .. } => &[],
+        _ => &[],
     }
 }

@@ -31,6 +31,7 @@ pub fn add_holder(
 }
 
 /// Removes a holder of the determinant with this number.
+#[tactic(auto, using(crate::proofs::HolderLemmas::held_less))]
 pub fn remove_holder(holders: &mut Vec<Holders>, number: u32, who: u8)
     requires { number < vec_len holders.old }
     ensures held { (i p : ℕ) → holds holders.new.items i p ≡

@@ -1,13 +1,9 @@
-use Rattle.std.proofs.Common.{ap, ◌∙◌}
-use Rattle.std.specs.Prelude.{◌==◌, ◌||◌, ◌&&◌}
-use Rattle.causal_name.specs.Names.{same_det}
-use Rattle.causal_replays.specs.Inside.Holdings.{holds}
-use Rattle.causal_replays.proofs.SlotLemmas.{on_ok}
-use Rattle.causal_replays.proofs.CopyLemmas.{and_swap}
+use Rattle.std.proofs.Common.{arith}
+use Rattle.std.proofs.lemmas.Result.{on_ok_weaker}
 use Rattle.causal_replays.proofs.NumberLemmas.{numbers_match}
 use Rattle.causal_replays.proofs.copies.log_det.Goals as goal
 
 pub returns-clause-held : goal.returns-clause-held
-returns-clause-held c = on_ok c.add_holder.result (λ held d i p at.
-    let match = numbers_match c.args.trace.now.recording.past d c.args.det i c.number_of-number.result at c.number_of-number.ensures.value in
-    held i p ∙ ap (λ b. b || holds c.args.copies.now.holders.items i p) (ap (λ b. b && c.args.who == p) match ∙ and_swap (same_det d c.args.det) (c.args.who == p))) c.add_holder.ensures.held
+returns-clause-held c =
+    on_ok_weaker c.add_holder.result
+    (λ held d i p at. grind (arith, held i p, numbers_match c.args.trace.now.recording.past d c.args.det i c.number_of-number.result at c.number_of-number.ensures.value)) c.add_holder.ensures.held

@@ -1,13 +1,13 @@
-use Rattle.std.proofs.Common.{◌≡◌, ◌+◌, ◌≤◌, ◌∷◌, Bool, true, None, length, sym, subst, arith}
-use Rattle.std.specs.Prelude.{◌||◌, IfSome}
+use Rattle.std.proofs.Common.{◌≡◌, ◌+◌, ◌≤◌, ◌∷◌, true, None, Some, length, subst, arith}
+use Rattle.std.specs.Prelude.{◌||◌}
 use Rattle.causal_name.specs.declared.Det.{Det}
 use Rattle.causal_trace.specs.Past.{instant, list_has}
 use Rattle.causal_trace.specs.Survivors.{survives, SlotsAreSingle}
 use Rattle.causal_replays.specs.Inside.Copies.{AreSized, IsCopyTable}
-use Rattle.causal_replays.specs.Inside.Rivals.{HasRivals, AreNoted}
+use Rattle.causal_replays.specs.Inside.Rivals.{AreNoted}
 use Rattle.causal_replays.proofs.SlotLemmas.{no_number}
 use Rattle.causal_replays.proofs.RivalLemmas.{noted_fewer}
-use Rattle.causal_replays.proofs.RunLemmas.{named_numbered, tested, listed_copied, noted_kept, two_now, lower_now, pair_now, single_now, copied_first, noted_first, single_first}
+use Rattle.causal_replays.proofs.RunLemmas.{named_numbered, tested, listed_copied, noted_kept, two_now, one_survivor, pair_now, copied_first, noted_first, single_first}
 use Rattle.causal_replays.proofs.replays.first_stray.Goals as goal
 use Rattle.causal_replays.proofs.replays.first_stray.Goals.{After-copied_by}
 use Rattle.causal_trace.proofs.Lemmas.AtInstants.{how_many, next_state, up_to_next}
@@ -21,9 +21,7 @@ module _ (c : After-copied_by) where
   next = next_state c.args.trace.now.recording c.entries-recorded.result.now c.entries-recorded.ensures.value c.loop-t.t c.index-recorded-t.result (omega (arith, inside)) c.index-recorded-t.is
 
   copied : IsCopyTable c.args.trace.now.recording.past (instant c.args.trace.now.recording.past (c.loop-t.t + 1)) c.apply_entry.new.copies
-  copied =
-      let r = c.args.trace.now.recording in
-      subst (λ p. IsCopyTable r.past p c.apply_entry.new.copies) (sym next) (c.in_ok-apply_entry.ensures.copies (instant r.past c.loop-t.t) c.loop-t.invariant.copied)
+  copied = rw next (c.in_ok-apply_entry.ensures.copies (instant c.args.trace.now.recording.past c.loop-t.t) c.loop-t.invariant.copied)
 
   -- the earlier survivors are in their slots
   kept : AreNoted c.args.trace.now.recording.past c.apply_entry.new.copies c.loop-t.slots.items None (survives c.args.trace.now.recording.processes (instant c.args.trace.now.recording.past c.loop-t.t))
@@ -49,12 +47,9 @@ loop-t-init c =
 pub apply_entry-requires-clause-numbers : goal.apply_entry-requires-clause-numbers
 apply_entry-requires-clause-numbers c =
     let r = c.args.trace.now.recording in
-    let es = c.entries-recorded.result.now in
-    let read = c.entries-recorded.ensures.value in
-    let t = c.loop-t.t in
-    let e = c.index-recorded-t.result in
-    let below : t + 1 ≤ length r.past = omega (arith, c.loop-t-test.true, how_many r es read) in
-    named_numbered r c.entries-recorded.ensures.formed t e below (next_state r es read t e (omega (arith, below)) c.index-recorded-t.is)
+    let below : c.loop-t.t + 1 ≤ length r.past = omega (arith, c.loop-t-test.true, how_many r c.entries-recorded.result.now c.entries-recorded.ensures.value) in
+    named_numbered r c.entries-recorded.ensures.formed c.loop-t.t c.index-recorded-t.result below
+    (next_state r _ c.entries-recorded.ensures.value c.loop-t.t c.index-recorded-t.result (omega (arith, below)) c.index-recorded-t.is)
 
 pub note_dets-requires-clause-copied : goal.note_dets-requires-clause-copied
 note_dets-requires-clause-copied c =
@@ -63,42 +58,32 @@ note_dets-requires-clause-copied c =
 
 pub first_two-first-requires-clause-two : goal.first_two-first-requires-clause-two
 first_two-first-requires-clause-two c =
-    let r = c.args.trace.now.recording in
     let b = (goal.at.first_two-first-requires-clause-two c).After-copied_by in
-    let now = c.apply_entry.new.copies in
-    let noted = c.in_ok-slot.ensures.noted (survives r.processes (instant r.past c.loop-t.t)) (kept b) in
-    two_now r c.entries-recorded.ensures.formed (c.loop-t.t + 1) (inside b) now (copied b) c.in-Some.slot (subst (λ o. IfSome o (HasRivals r.past now)) c.in-Some.is noted.rivals)
+    let noted = rw c.in-Some.is at (c.in_ok-slot.ensures.noted _ (kept b)) in
+    two_now c.args.trace.now.recording c.entries-recorded.ensures.formed (c.loop-t.t + 1) (inside b) c.apply_entry.new.copies (copied b) c.in-Some.slot noted.rivals
 
 pub returns-in-Some : goal.returns-in-Some
 returns-in-Some c =
     let r = c.args.trace.now.recording in
-    let formed = c.entries-recorded.ensures.formed in
     let b = (goal.at.returns-in-Some c).After-copied_by in
-    let now = c.apply_entry.new.copies in
-    let slots = c.note_dets.new.slots.items in
-    let survivor = survives r.processes (instant r.past c.loop-t.t) in
-    let test : Det → Bool = λ d. survivor d || list_has c.copied_by.result.now d in
+    let noted = rw c.in-Some.is at (c.in_ok-slot.ensures.noted _ (kept b)) in
     record {
       within = inside b;
       earlier = λ u h. c.loop-t.invariant.earlier u (omega (arith, h));
-      lower = lower_now r formed (c.loop-t.t + 1) (inside b) now (copied b) slots test (passed b) c.in-Some.slot (subst (λ o. AreNoted r.past now slots o test) c.in-Some.is (c.in_ok-slot.ensures.noted survivor (kept b)));
-      pair = pair_now r formed (c.loop-t.t + 1) (inside b) now (copied b) c.in-Some.slot c.first_two-first.result.0 c.first_two-first.result.1 c.first_two-first.ensures;
+      lower = one_survivor r c.entries-recorded.ensures.formed (c.loop-t.t + 1) (inside b) c.apply_entry.new.copies (copied b) c.note_dets.new.slots.items _ (passed b) (Some c.in-Some.slot) noted;
+      pair = pair_now r c.entries-recorded.ensures.formed (c.loop-t.t + 1) (inside b) c.apply_entry.new.copies (copied b) c.in-Some.slot c.first_two-first.result.0 c.first_two-first.result.1 c.first_two-first.ensures;
     }
 
 pub loop-t-preserved : goal.loop-t-preserved
 loop-t-preserved c =
     let r = c.args.trace.now.recording in
     let b = (goal.at.loop-t-preserved c).After-copied_by in
-    let next_t = c.loop-t.t + 1 in
-    let now = c.apply_entry.new.copies in
-    let slots = c.note_dets.new.slots.items in
-    let survivor = survives r.processes (instant r.past c.loop-t.t) in
-    let test : Det → Bool = λ d. survivor d || list_has c.copied_by.result.now d in
-    let single = subst (λ o. AreNoted r.past now slots o test) c.in_default.is (c.in_ok-slot.ensures.noted survivor (kept b)) in
+    let noted = rw c.in_default.is at (c.in_ok-slot.ensures.noted _ (kept b)) in
     record {
       sized = c.in_ok-apply_entry.ensures.sized;
       count = c.note_dets.ensures.count;
       copied = copied b;
-      noted = noted_fewer r.past now slots None test (survives r.processes (instant r.past next_t)) (passed b) single;
-      earlier = up_to_next (λ u. SlotsAreSingle r.processes (instant r.past u)) c.loop-t.t c.loop-t.invariant.earlier (single_now r c.entries-recorded.ensures.formed next_t (inside b) now (copied b) slots test (passed b) single);
+      noted = noted_fewer _ _ _ _ _ _ (passed b) noted;
+      earlier = up_to_next (λ u. SlotsAreSingle r.processes (instant r.past u)) c.loop-t.t c.loop-t.invariant.earlier
+          (λ x y hx hy dest rsn. one_survivor r c.entries-recorded.ensures.formed (c.loop-t.t + 1) (inside b) c.apply_entry.new.copies (copied b) c.note_dets.new.slots.items _ (passed b) None noted x y hx hy (cc) tt);
     }
