@@ -1,5 +1,5 @@
 -- A shortest chain, by the shortest paths.
-use Rattle.std.proofs.Common.{ℕ, ◌≡◌, ◌+◌, List, length, Some, None, refl, ap, ◌∙◌, arith}
+use Rattle.std.proofs.Common.{ℕ, ◌≡◌, List, length, Some, None, refl, ap, arith}
 use Rattle.std.specs.Prelude.{Option, IfSome}
 use Rattle.causal_trace.specs.declared.entry.Entry.{Entry}
 use Rattle.causal_trace.specs.Past.{lane}
@@ -14,16 +14,9 @@ module _ (past : List Entry) (i p : ℕ) where
   led : (chain : List ℕ) → (h : IsChain past i p chain) → HasPath past i h.last (length h.rest)
   led chain h = comes_along past i i h.last 0 (length h.rest) h.rest (at_once h.event.0 h.event.1 h.event.2 refl refl) h.path (omega arith)
 
-  long : (chain : List ℕ) → (h : IsChain past i p chain) → length chain ≡ length h.rest + 1
-  long chain h = ap length h.begins ∙ omega arith
-
   event_of : (k n : ℕ) → HasPath past i k n → (q : ℕ) × (l : ℕ) × IsEventOf past i q l
   event_of k n (at_once q l at is none) = (q, l, at)
   event_of k n (onward j m c d is) = event_of j m c
-
-  -- if no event of the lane is reached, no chain leads to the process
-  no_chain : Nearest past i (λ k. IsEventOf past k p (lane past p)) None → (chain : List ℕ) → IsChain past i p chain → ⊥
-  no_chain none chain h = none h.last (length h.rest) h.present (led chain h)
 
   -- the nearest event of the lane, if there is one, is reached by the fewest steps
   pub all_least : (nearest : Option ReachedEvent) → Nearest past i (λ k. IsEventOf past k p (lane past p)) nearest → IfSome nearest (λ x. IsLeastDistance past i x.position x.steps)
@@ -36,12 +29,12 @@ module _ (past : List Entry) (i p : ℕ) where
     leads = record { event = event_of x.position x.steps h.1; rest = walk.rest; begins = walk.begins; last = x.position; path = walk.path; present = h.0 };
     shortest = λ other leads.
         let few = h.2 leads.last (length leads.rest) leads.present (led other leads) in
-        omega (arith, few, long other leads, ap length walk.begins, walk.steps);
+        omega (arith, few, ap length leads.begins, ap length walk.begins, walk.steps);
   }
 
   -- the result is a shortest chain, or None if no event is reached
   pub chain_told : (nearest : Option ReachedEvent) (found : Option (List ℕ)) → Nearest past i (λ k. IsEventOf past k p (lane past p)) nearest → IsPathToNearest past i nearest found → ShortestChain past i p found
-  chain_told None None h walk = no_chain h
+  chain_told None None h walk = λ chain leads. h leads.last (length leads.rest) leads.present (led chain leads)
   chain_told None (Some chain) h walk = absurd (let no : Some chain ≡ None = walk in cc)
   chain_told (Some x) None h walk = absurd walk
   chain_told (Some x) (Some chain) h walk = shortest x chain h walk

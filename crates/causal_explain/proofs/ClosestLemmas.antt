@@ -1,10 +1,9 @@
 -- Orphans for one bound and for another, and what a search for one finds.
-use Rattle.std.proofs.Common.{ℕ, ◌≡◌, ◌<◌, ◌≤◌, inl, inr, Bool, true, List, length, Option, Some, None, refl, arith}
-use Rattle.std.specs.Ordering.{nat_cmp}
-use Rattle.std.specs.FinSet.{FinSet, contains, len}
+use Rattle.std.proofs.Common.{ℕ, ◌≡◌, ◌<◌, ◌≤◌, inl, inr, Bool, List, length, Option, Some, None, arith}
+use Rattle.std.specs.FinSet.{contains, len}
 use Rattle.std.proofs.lemmas.Bool.{cases_lt}
 use Rattle.causal_name.specs.Sets.{count_below}
-use Rattle.causal_holders.proofs.Lemmas.MemberCounts.{count_below-le, members_counted}
+use Rattle.causal_holders.proofs.Lemmas.MemberCounts.{count_below-le, len_counted}
 use Rattle.causal_trace.specs.declared.entry.Entry.{Entry}
 use Rattle.causal_trace.specs.Past.{instant, deliveries_in}
 use Rattle.causal_trace.specs.Rows.{Recording}
@@ -26,17 +25,13 @@ crash_more n f g past crash more h = record { down = h.down; few = omega (arith,
 pub orphan_more : (n f g : ℕ) (past : List Entry) (k : ℕ) → f ≤ g → HasOrphan n f past k → HasOrphan n g past k
 orphan_more n f g past k more h = grind (arith, crash_more n f g past h.crash more h.may_crash)
 
--- an orphan is one for the number of processes as the bound
-orphan_all : (n f : ℕ) (past : List Entry) (k : ℕ) → HasOrphan n f past k → HasOrphan n n past k
-orphan_all n f past k h = grind (arith, count_below-le n h.crash)
-
 -- if no delivery has an orphan for a bound, none has one for a smaller bound
 pub none_fewer : (r : Recording) (f g : ℕ) → f ≤ g → HasNoOrphan r g → HasNoOrphan r f
 none_fewer r f g fewer none k t within has = none k t within (orphan_more r.processes f g (instant r.past t) k fewer has)
 
 -- if no delivery has an orphan for the number of processes, none has one for any bound
 pub none_ever : (r : Recording) → HasNoOrphan r r.processes → (f : ℕ) → HasNoOrphan r f
-none_ever r none f k t within has = none k t within (orphan_all r.processes f (instant r.past t) k has)
+none_ever r none f k t within has = none k t within (grind (arith, count_below-le r.processes has.crash))
 
 -- in a safe run no delivery has an orphan
 pub safe_none : (r : Recording) (f : ℕ) → IsSafeTrace r f → HasNoOrphan r f
@@ -62,16 +57,13 @@ leaves r f safe (At faults breach) h =
       ),
     )
 
-counted : (n : ℕ) (c : FinSet nat_cmp) → ((q : ℕ) → contains c q ≡ true → q < n) → len c ≡ count_below n (contains c)
-counted n c inside = members_counted n c (contains c) (record { process = inside; member = λ p below. refl })
-
 -- an earliest breach is the earliest for the size of its crash set as the bound
 by_itself : (r : Recording) (g : ℕ) (b : Breach) → IsEarliestBreach r g 0 (deliveries_in r.past) b → (len b.crash ≤ g) × IsEarliestBreach r (len b.crash) 0 (deliveries_in r.past) b
 by_itself r g b h =
     let n = r.processes in
     let f = len b.crash in
     let least = h.first.least in
-    let same : len b.crash ≡ count_below n (contains b.crash) = counted n b.crash least.process in
+    let same : len b.crash ≡ count_below n (contains b.crash) = len_counted n b.crash least.process in
     let fewer : f ≤ g = omega (arith, same, least.may_crash.few) in (
       fewer,
       record {

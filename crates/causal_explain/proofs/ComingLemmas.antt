@@ -8,10 +8,6 @@ use Rattle.causal_trace.specs.Dependence.{AreForward, actor, IsEventOf, Directly
 use Rattle.causal_trace.proofs.Lemmas.DependenceSteps.{event_below, event_old, delivers_below, precedes_before, precedes_old, precedes_more}
 use Rattle.causal_explain.specs.Inside.ShortestPaths.{HasPath, at_once, onward, PrecedesNext}
 
-precedes_within : (past : List Entry) (i j : ℕ) → DirectlyPrecedes past i j → j < length past
-precedes_within past i j (in_order p l h a b) = event_below past j p l b
-precedes_within past i j (by_message h) = delivers_below past j i h
-
 -- an event that precedes the next entry directly precedes it, once it is there
 pub next_preceded : (e : Entry) (past : List Entry) (j : ℕ) → PrecedesNext e past j → DirectlyPrecedes (e ∷ past) j (length past)
 next_preceded e past j (inl h) = in_order h.0 (lane past h.0) (event_below past j h.0 (lane past h.0) h.2) (inl h.2) (inr (refl, h.1, refl))
@@ -32,7 +28,8 @@ comes_old e past i k n forward below (onward j m c d is) =
 -- an event that is reached is in the past
 pub comes_within : (past : List Entry) (i k n : ℕ) → HasPath past i k n → k < length past
 comes_within past i k n (at_once p l at is none) = omega (arith, event_below past i p l at, is)
-comes_within past i k n (onward j m c d is) = precedes_within past j k d
+comes_within past i k n (onward j m c (in_order p l h a b) is) = event_below past k p l b
+comes_within past i k n (onward j m c (by_message h) is) = delivers_below past k j h
 
 -- each step advances by at least one position
 pub comes_few : (past : List Entry) (i k n : ℕ) → AreForward past → HasPath past i k n → n ≤ k
@@ -49,24 +46,16 @@ pub data ComesNewest (e : Entry) (past : List Entry) (i n : ℕ) : Type 0 where
   is_newest : i ≡ length past → is_some (actor e) ≡ true → n ≡ 0 → ComesNewest e past i n
   through : (j m : ℕ) → PrecedesNext e past j → HasPath past i j m → n ≡ m + 1 → ComesNewest e past i n
 
-begins_newest : (e : Entry) (past : List Entry) (i p l n : ℕ) → i ≡ length past → n ≡ 0 → IsEventOf (e ∷ past) i p l → ComesNewest e past i n
-begins_newest e past i p l n here none (inl old) = absurd (omega (arith, event_below past i p l old, here))
-begins_newest e past i p l n here none (inr new) = is_newest here (ap is_some new.1) none
-
-precedes_newest : (e : Entry) (past : List Entry) (i j k m n : ℕ) → AreForward (e ∷ past) → k ≡ length past → HasPath (e ∷ past) i j m → DirectlyPrecedes (e ∷ past) j k → n ≡ m + 1 → ComesNewest e past i n
-precedes_newest e past i j k m n forward here c (in_order p l h a (inl b)) is = absurd (omega (arith, event_below past k p l b, here))
-precedes_newest e past i j k m n forward here c (in_order p l h a (inr b)) is =
-    let below : j < length past = omega (arith, h, here) in
-    through j m (inl (p, b.1, subst (λ x. IsEventOf past j p x) (sym b.2) (event_old e past j p l below a))) (comes_old e past i j m forward below c) is
-precedes_newest e past i j k m n forward here c (by_message (inl h)) is = absurd (omega (arith, delivers_below past k j h, here))
-precedes_newest e past i j k m n forward here c (by_message (inr h)) is =
-    let below : j < length past = omega (arith, forward k j (inr h), here) in
-    through j m (inr h.1) (comes_old e past i j m forward below c) is
-
 -- the newest event is reached by zero steps, or by one more than an event that directly precedes it
 pub comes_newest : (e : Entry) (past : List Entry) (i k n : ℕ) → AreForward (e ∷ past) → k ≡ length past → HasPath (e ∷ past) i k n → ComesNewest e past i n
-comes_newest e past i k n forward here (at_once p l at is none) = begins_newest e past i p l n (sym is ∙ here) none at
-comes_newest e past i k n forward here (onward j m c d is) = precedes_newest e past i j k m n forward here c d is
+comes_newest e past i k n forward here (at_once p l (inl old) is none) = absurd (omega (arith, event_below past i p l old, is, here))
+comes_newest e past i k n forward here (at_once p l (inr new) is none) = is_newest (sym is ∙ here) (ap is_some new.1) none
+comes_newest e past i k n forward here (onward j m c (in_order p l h a (inl b)) is) = absurd (omega (arith, event_below past k p l b, here))
+comes_newest e past i k n forward here (onward j m c (in_order p l h a (inr b)) is) =
+    let below : j < length past = omega (arith, h, here) in
+    through j m (inl (p, b.1, subst (IsEventOf past j p) (sym b.2) (event_old e past j p l below a))) (comes_old e past i j m forward below c) is
+comes_newest e past i k n forward here (onward j m c (by_message (inl h)) is) = absurd (omega (arith, delivers_below past k j h, here))
+comes_newest e past i k n forward here (onward j m c (by_message (inr h)) is) = through j m (inr h.1) (comes_old e past i j m forward (omega (arith, forward k j (inr h), here)) c) is
 
 -- steps that lead to the start of a path also lead to its end, with those of the path
 pub comes_along : (past : List Entry) (i j k n m : ℕ) (over : List ℕ) → HasPath past i j n → IsPath past j over k → m ≡ n + length over → HasPath past i k m

@@ -10,6 +10,5 @@ mod RangeLemmas
 mod SinceLemmas
 mod StandingLemmas
 mod TransitLemmas
-mod FirstEntries
 mod WalkLemmas
 mod WayLemmas

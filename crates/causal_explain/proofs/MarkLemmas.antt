@@ -1,17 +1,16 @@
 -- The marks of the events of a kind, with one more entry.
-use Rattle.std.proofs.Common.{ℕ, ◌≡◌, ◌+◌, ◌<◌, ◌≤◌, Bool, false, List, [], ◌∷◌, ◌++◌, length, Option, Some, None, refl, sym, ap, ◌∙◌, arith}
-use Rattle.std.specs.Prelude.{◌==◌, MatchOption}
+use Rattle.std.proofs.Common.{ℕ, ◌≡◌, ◌+◌, ◌<◌, ◌≤◌, Bool, false, List, [], ◌∷◌, ◌++◌, length, Option, Some, None, refl, sym, ◌∙◌, arith}
+use Rattle.std.specs.Prelude.{MatchOption}
 use Rattle.std.specs.List.{find}
-use Rattle.std.specs.Option.{is_some, option_map_or}
-use Rattle.std.proofs.lemmas.Bool.{cases_lt, cond-true, cond-false, eq-eqb, ne_eqb}
+use Rattle.std.specs.Option.{is_some}
+use Rattle.std.proofs.lemmas.Bool.{cases_lt, eq-eqb}
 use Rattle.std.proofs.lemmas.Bool.Decides.{eqb_tells}
 use Rattle.std.proofs.lemmas.List.{length-append, get_or_past}
 use Rattle.std.proofs.Math.ListN.{get_or-append}
 use Rattle.std.proofs.Math.Seq.{get_or-append_seam}
 use Rattle.causal_name.specs.declared.Det.{Det}
 use Rattle.causal_trace.specs.declared.entry.Entry.{Entry}
-use Rattle.causal_trace.specs.declared.entry.Entry.TheVariants.{Send, Deliver, Stable, Crash, Restart, Forget}
-use Rattle.causal_trace.specs.Past.{entry_at, instant}
+use Rattle.causal_trace.specs.declared.entry.Entry.TheVariants.{Send}
 use Rattle.causal_trace.proofs.Lemmas.AtInstants.{instants_stay, one_more_instant, last_instant}
 use Rattle.causal_trace.proofs.Lemmas.Instants.{entry_beyond}
 use Rattle.causal_explain.specs.declared.marks.EventKind.{EventKind}
@@ -25,36 +24,22 @@ use Rattle.causal_explain.proofs.SinceLemmas.{holds_now}
 -- a send changes no log
 sent_after : (past : List Entry) (d : Det) (e : Entry) → is_sent_by_holder past d e ≡ is_sent_by_holder (e ∷ past) d e
 sent_after past d (Send from to ssn) = refl
-sent_after past d (Deliver to send rsn listed) = refl
-sent_after past d (Stable det) = refl
-sent_after past d (Crash who) = refl
-sent_after past d (Restart who listed) = refl
-sent_after past d (Forget who listed) = refl
+sent_after past d _ = refl
 
 module _ (e : Entry) (past : List Entry) (d : Det) where
-  at_newest : (state : List Entry) (test : List Entry → Entry → Bool) (s : List Entry) → s ≡ state → option_map_or (test s) (entry_at (e ∷ past) (length past)) false ≡ test state e
-  at_newest state test s is =
-      ap (λ s. option_map_or (test s) (entry_at (e ∷ past) (length past)) false) is
-      ∙ ap (λ x. option_map_or (test state) x false) (cond-true (length past == length past) _ _ (eq-eqb (length past) (length past) refl))
-
   -- the newest position depends on the newest state
   newest : (kind : EventKind) → is_of_kind_at kind (e ∷ past) d (length past) ≡ is_of_kind kind (e ∷ past) d e
-  newest DeliveryWithoutDet = at_newest (e ∷ past) (λ s. is_of_kind DeliveryWithoutDet s d) (instant (e ∷ past) (length past + 1)) (one_more_instant e past)
-  newest SendByHolder = at_newest past (λ s. is_sent_by_holder s d) (instant (e ∷ past) (length past)) (instants_stay e past (length past) (omega arith) ∙ last_instant past) ∙ sent_after past d e
-
-  at_earlier : (t k : ℕ) (test : List Entry → Entry → Bool) → t ≤ length past → k < length past → option_map_or (test (instant (e ∷ past) t)) (entry_at (e ∷ past) k) false ≡ option_map_or (test (instant past t)) (entry_at past k) false
-  at_earlier t k test within below =
-      ap (λ s. option_map_or (test s) (entry_at (e ∷ past) k) false) (instants_stay e past t within)
-      ∙ ap (λ x. option_map_or (test (instant past t)) x false) (cond-false (k == length past) _ _ (ne_eqb k (length past) (λ is. omega (arith, below, is))))
+  newest DeliveryWithoutDet = grind (arith, one_more_instant e past, eq-eqb (length past) (length past) refl)
+  newest SendByHolder = grind (arith, instants_stay e past (length past), last_instant past, sent_after past d e, eq-eqb (length past) (length past) refl)
 
   -- an earlier position is unchanged
   still : (kind : EventKind) (k : ℕ) → k < length past → is_of_kind_at kind (e ∷ past) d k ≡ is_of_kind_at kind past d k
-  still DeliveryWithoutDet k below = at_earlier (k + 1) k (λ s. is_of_kind DeliveryWithoutDet s d) (omega (arith, below)) below
-  still SendByHolder k below = at_earlier k k (λ s. is_sent_by_holder s d) (omega (arith, below)) below
+  still DeliveryWithoutDet k below = grind (arith, instants_stay e past (k + 1), eqb_tells k (length past))
+  still SendByHolder k below = grind (arith, instants_stay e past k, eqb_tells k (length past))
 
   beyond : (kind : EventKind) (k : ℕ) → length (e ∷ past) ≤ k → is_of_kind_at kind (e ∷ past) d k ≡ false
-  beyond DeliveryWithoutDet k above = ap (λ x. option_map_or (is_of_kind DeliveryWithoutDet (instant (e ∷ past) (k + 1)) d) x false) (entry_beyond (e ∷ past) k above)
-  beyond SendByHolder k above = ap (λ x. option_map_or (is_sent_by_holder (instant (e ∷ past) k) d) x false) (entry_beyond (e ∷ past) k above)
+  beyond DeliveryWithoutDet k above = rw (entry_beyond (e ∷ past) k above) refl
+  beyond SendByHolder k above = rw (entry_beyond (e ∷ past) k above) refl
 
   -- the marks with one more
   pub marks_more : (kind : EventKind) (marks : List Bool) (b : Bool) → AreMarks kind past d marks → b ≡ is_of_kind kind (e ∷ past) d e → AreMarks kind (e ∷ past) d (marks ++ b ∷ [])
@@ -74,8 +59,7 @@ module _ (e : Entry) (past : List Entry) (d : Det) where
 
 -- no marks before the first entry
 pub marks_none : (kind : EventKind) (d : Det) → AreMarks kind [] d []
-marks_none DeliveryWithoutDet d = record { count = refl; each = λ k. refl }
-marks_none SendByHolder d = record { count = refl; each = λ k. refl }
+marks_none kind d = grind arith
 
 -- the first marked position is the first with a delivery after which the log lacks the determinant
 pub first_marked : (past : List Entry) (d : Det) (marks : List Bool) (chain : List ℕ) → AreMarks DeliveryWithoutDet past d marks → first_in marks chain ≡ first_lacking past d chain

@@ -1,7 +1,5 @@
 -- The bounds f for which a run is safe.
 use Rattle.std.proofs.Common.{ℕ, ◌≡◌, ◌<◌, ◌≤◌, inl, inr, Some, None, refl, arith}
-use Rattle.std.specs.Ordering.{nat_cmp}
-use Rattle.std.specs.FinSet.{FinSet}
 use Rattle.std.proofs.lemmas.Bool.{cases_lt}
 use Rattle.causal_holders.proofs.Lemmas.MemberCounts.{count_below-le}
 use Rattle.causal_trace.specs.Past.{instant, is_down, deliveries_in}
@@ -25,10 +23,6 @@ all_at_most r t within = count_below-le r.processes (is_down (instant r.past t))
 unsafe_excess : (r : Recording) (f : ℕ) → HasExcessInstant r f → IsSafeTrace r f → ⊥
 unsafe_excess r f x safe = absurd (omega (arith, x.2, (safe x.0 x.1).few_down))
 
--- a run with an orphan is not safe
-unsafe_orphan : (r : Recording) (f : ℕ) → HasOrphanInstant r f → IsSafeTrace r f → ⊥
-unsafe_orphan r f x safe = (safe x.0 x.2).no_orphan x.1 x.3
-
 -- an orphan for a bound is one for a greater bound
 more_orphan : (r : Recording) (f g : ℕ) → f ≤ g → HasOrphanInstant r f → HasOrphanInstant r g
 more_orphan r f g more x = (x.0, x.1, x.2, orphan_more r.processes f g (instant r.past x.0) x.1 more x.3)
@@ -51,7 +45,7 @@ range_to r from end fewer orphan between = record {
   safe = λ f. (
     λ safe. elim (cases_lt f from) [
       | inl low ↦ absurd (unsafe_excess r f (fewer f low) safe)
-      | inr high ↦ elim (cases_lt f end) [ inl below ↦ (high, below) | inr more ↦ absurd (unsafe_orphan r f (more_orphan r end f more orphan) safe) ]
+      | inr high ↦ elim (cases_lt f end) [ inl below ↦ (high, below) | inr more ↦ let x = more_orphan r end f more orphan in absurd ((safe x.0 x.2).no_orphan x.1 x.3) ]
     ],
     λ within. between f within.0 within.1,
   );
@@ -63,16 +57,8 @@ range_to r from end fewer orphan between = record {
 pub orphan_of_breach : (r : Recording) (f : ℕ) (b : Breach) → EarliestBreach r f 0 (deliveries_in r.past) (Some b) → HasOrphanInstant r f
 orphan_of_breach r f b h = grind arith
 
--- an orphan verdict implies an orphan at some instant
-orphan_of_verdict : (r : Recording) (f t k p : ℕ) (crash : FinSet nat_cmp) → IsVerdict r f (Orphan t k crash p) → HasOrphanInstant r f
-orphan_of_verdict r f t k p crash h = grind arith
-
--- if no instant has an excess, the verdict is not `Exceeded`
-no_excess : (r : Recording) (f t : ℕ) (down : FinSet nat_cmp) → FirstExcess r f None → IsVerdict r f (Exceeded t down) → ⊥
-no_excess r f t down none h = absurd (omega (arith, h.1.many, none t h.0.within))
-
 -- if no instant has an excess and the verdict is not `Accept`, a delivery has an orphan at some instant
 pub orphan_unless : (r : Recording) (f : ℕ) (v : Verdict) → FirstExcess r f None → IsVerdict r f v → (v ≡ Accept → ⊥) → HasOrphanInstant r f
 orphan_unless r f Accept none is other = absurd (other refl)
-orphan_unless r f (Exceeded t down) none is other = absurd (no_excess r f t down none is)
-orphan_unless r f (Orphan t k crash p) none is other = orphan_of_verdict r f t k p crash is
+orphan_unless r f (Exceeded t down) none is other = absurd (omega (arith, is.1.many, none t is.0.within))
+orphan_unless r f (Orphan t k crash p) none is other = (t, k, is.0.within, record { crash = _; orphan = p; may_crash = is.1.least.may_crash; is_orphan = is.1.least.is_orphan })

@@ -1,58 +1,29 @@
 -- The value of a process, with one more entry.
-use Rattle.std.proofs.Common.{ℕ, ◌≡◌, ◌+◌, ◌<◌, Bool, true, false, List, [], ◌∷◌, length, take, replicate, get_or, refl, sym, ap, subst, ◌∙◌, arith}
+use Rattle.std.proofs.Common.{ℕ, ◌≡◌, ◌+◌, ◌<◌, Bool, true, false, List, [], ◌∷◌, length, take, replicate, get_or, sym, ap, subst, ◌∙◌, arith}
 use Rattle.std.specs.Prelude.{◌&&◌, not, slice_set}
 use Rattle.std.proofs.lemmas.Bool.{and_from, or_from, or_right}
 use Rattle.std.proofs.lemmas.Bool.Decides.{eqb_tells}
 use Rattle.std.proofs.lemmas.List.{length-set, length-take, length-replicate, get_or-set_other, get_or-set_same, get_or-take, get_or-replicate}
 use Rattle.causal_trace.specs.declared.entry.Entry.{Entry}
 use Rattle.causal_trace.specs.State.{past_at}
-use Rattle.causal_trace.specs.Past.{instant}
 use Rattle.causal_trace.proofs.Lemmas.AtInstants.{instants_stay, last_instant}
 use Rattle.causal_trace.proofs.Lemmas.Instants.{past_more, past_length}
 use Rattle.causal_explain.specs.declared.validity.Change.{Change}
-use Rattle.causal_explain.specs.declared.validity.Span.{Span}
 use Rattle.causal_explain.specs.declared.validity.Validity.{Validity}
 use Rattle.causal_explain.specs.declared.validity.Validity.TheVariants.{Never, Holds, Ended}
-use Rattle.causal_explain.specs.Inside.Validities.{AreValidities, IsLastSpan, IsOverSince, IsValidity, IsChangeOf}
+use Rattle.causal_explain.specs.Inside.Validities.{AreValidities, IsOverSince, IsValidity, IsChangeOf}
 use Rattle.causal_explain.specs.ProcessFacts.{HoldsSince, ever_holds}
 use Rattle.causal_explain.proofs.SinceLemmas.{fails_now, holds_now, since_newest, since_more}
 
-not_true : (b : Bool) → not b ≡ true → b ≡ false
-not_true true h = sym h
-not_true false h = refl
-
 module _ (e : Entry) (past : List Entry) (test : List Entry → Bool) where
-  -- a span in which the test held is still one with one more entry
-  still_held : (span : Span) → IsLastSpan past test span → HoldsSince (instant (e ∷ past) span.to) test span.from
-  still_held span h = subst (λ state. HoldsSince state test span.from) (sym (instants_stay e past span.to (let within = h.0.0.within in omega (arith, within)))) h.1
-
   -- a value is unchanged if the entry does not change its test
   pub still_stands : (standing : Validity) → test (e ∷ past) ≡ test past → IsValidity past test standing → IsValidity (e ∷ past) test standing
   still_stands Never same h = or_from (test (e ∷ past)) (ever_holds test past) (same ∙ fails_now past test h) h
   still_stands (Holds since) same h = since_more e past test since h (same ∙ holds_now past test since h)
   still_stands (Ended span) same h = (
-    (
-      since_more e past (λ state. not (test state)) span.to h.0.0 (ap not same ∙ holds_now past (λ state. not (test state)) span.to h.0.0),
-      or_right (test (e ∷ past)) (ever_holds test past) h.0.1,
-    ),
-    still_held span h,
+    (since_more e past (λ state. not (test state)) span.to h.0.0 (ap not same ∙ holds_now past (λ state. not (test state)) span.to h.0.0), or_right (test (e ∷ past)) (ever_holds test past) h.0.1),
+    subst (λ state. HoldsSince state test span.from) (sym (instants_stay e past span.to (let within = h.0.0.within in omega (arith, within)))) h.1,
   )
-
-  -- a fact that never held, and holds with one more entry, holds since that entry
-  pub begins_never : test (e ∷ past) ≡ true → IsValidity past test Never → IsValidity (e ∷ past) test (Holds (length past))
-  begins_never holds h = since_newest e past test (fails_now past test h) holds
-
-  -- a fact that had ended, and holds with one more entry, holds since that entry
-  pub begins_again : (span : Span) → test (e ∷ past) ≡ true → IsValidity past test (Ended span) → IsValidity (e ∷ past) test (Holds (length past))
-  begins_again span holds h = since_newest e past test (not_true (test past) (holds_now past (λ state. not (test state)) span.to h.0.0)) holds
-
-  -- a fact that still holds does so since the same position
-  pub goes_on : (since : ℕ) → test (e ∷ past) ≡ true → IsValidity past test (Holds since) → IsValidity (e ∷ past) test (Holds since)
-  goes_on since holds h = since_more e past test since h holds
-
-  -- a fact that never held, and does not hold with one more entry, never held
-  pub ends_never : test (e ∷ past) ≡ false → IsValidity past test Never → IsValidity (e ∷ past) test Never
-  ends_never fails h = or_from (test (e ∷ past)) (ever_holds test past) fails h
 
   ends_now : (since : ℕ) → test (e ∷ past) ≡ false → HoldsSince past test since → IsOverSince (e ∷ past) test (length past)
   ends_now since fails h = grind (arith, since_newest, holds_now past test since h, or_right)
@@ -60,20 +31,7 @@ module _ (e : Entry) (past : List Entry) (test : List Entry → Bool) where
   -- a fact that holds, and does not with one more entry, ended at that entry
   pub ends : (since : ℕ) → test (e ∷ past) ≡ false → IsValidity past test (Holds since)
       → IsValidity (e ∷ past) test (Ended (record { from = since; to = length past }))
-  ends since fails h = (
-    ends_now since fails h,
-    subst (λ state. HoldsSince state test since) (sym (instants_stay e past (length past) (omega arith) ∙ last_instant past)) h,
-  )
-
-  -- a fact that has ended, and does not hold with one more entry, ended at the same position
-  pub stays_ended : (span : Span) → test (e ∷ past) ≡ false → IsValidity past test (Ended span) → IsValidity (e ∷ past) test (Ended span)
-  stays_ended span fails h = (
-    (
-      since_more e past (λ state. not (test state)) span.to h.0.0 (ap not fails),
-      or_right (test (e ∷ past)) (ever_holds test past) h.0.1,
-    ),
-    still_held span h,
-  )
+  ends since fails h = (ends_now since fails h, subst (λ state. HoldsSince state test since) (sym (instants_stay e past (length past) (omega arith) ∙ last_instant past)) h)
 
 -- no fact holds before the first entry
 pub stand_none : (test : ℕ → List Entry → Bool) (n : ℕ) → ((p : ℕ) → test p [] ≡ false) → AreValidities [] test (replicate n Never)

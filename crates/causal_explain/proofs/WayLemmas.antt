@@ -20,7 +20,7 @@ use Rattle.causal_trace.proofs.Lemmas.DependenceSteps.{event_below, event_lane, 
 use Rattle.causal_explain.specs.declared.paths.ReachedEvent.{ReachedEvent}
 use Rattle.causal_explain.specs.declared.paths.PathStep.{PathStep}
 use Rattle.causal_explain.specs.Inside.ShortestPaths.{AreNearest, ArePathSteps, HasPath, at_once, onward, IsLeastDistance, IsPathStep, Nearest, PrecedesNext, IsPathStepOf, closer_event}
-use Rattle.causal_explain.proofs.ComingLemmas.{comes_more, comes_old, comes_within, comes_few, comes_newest, next_preceded, ComesNewest, is_newest, through}
+use Rattle.causal_explain.proofs.ComingLemmas.{comes_more, comes_old, comes_within, comes_few, comes_newest, next_preceded}
 
 module _ (past : List Entry) (i : ℕ) (A B C : ℕ → Type 0) (either : (k : ℕ) → C k → A k ⊎ B k) (one : (k : ℕ) → A k → C k) (other : (k : ℕ) → B k → C k) where
   -- the closer one of the nearest of two kinds is the nearest of both
@@ -36,10 +36,6 @@ pub nearest_still : (e : Entry) (past : List Entry) (i : ℕ) (A B : ℕ → Typ
 nearest_still e past i A B forward within to from None h = λ k n is c. h k n (from k is) (comes_old e past i k n forward (within k (from k is)) c)
 nearest_still e past i A B forward within to from (Some x) h = grind (arith, comes_more e past i x.position x.steps h.1, comes_old)
 
--- the nearest is reached by fewer steps than there are entries
-pub nearest_few : (past : List Entry) (i : ℕ) (A : ℕ → Type 0) (x : ReachedEvent) → AreForward past → Nearest past i A (Some x) → x.steps < length past
-nearest_few past i A x forward h = omega (arith, comes_few past i x.position x.steps forward h.1, comes_within past i x.position x.steps h.1)
-
 -- the nearest event of a process that the entry does not concern is unchanged
 pub lane_still : (e : Entry) (past : List Entry) (i p : ℕ) (found : Option ReachedEvent) → AreForward (e ∷ past) → (actor e ≡ Some p → ⊥) → lane (e ∷ past) p ≡ lane past p
     → Nearest past i (λ k. IsEventOf past k p (lane past p)) found → Nearest (e ∷ past) i (λ k. IsEventOf (e ∷ past) k p (lane (e ∷ past) p)) found
@@ -50,21 +46,13 @@ pub lane_joined : (e : Entry) (past : List Entry) (i p : ℕ) (before reached : 
     → Nearest past i (λ k. IsEventOf past k p (lane past p)) before → Nearest (e ∷ past) i (λ k. k ≡ length past) reached
     → Nearest (e ∷ past) i (λ k. IsEventOf (e ∷ past) k p (lane (e ∷ past) p)) (closer_event before reached)
 lane_joined e past i p before reached forward who same h new =
-    nearest_of_both (e ∷ past) i (λ k. IsEventOf past k p (lane past p)) (λ k. k ≡ length past) (λ k. IsEventOf (e ∷ past) k p (lane (e ∷ past) p)) either
-    (λ k at. inl (subst (IsEventOf past k p) (sym same) at)) (λ k here. inr (here, who, sym same)) before reached
+    nearest_of_both (e ∷ past) i (λ k. IsEventOf past k p (lane past p)) (λ k. k ≡ length past) (λ k. IsEventOf (e ∷ past) k p (lane (e ∷ past) p)) (λ k at. grind arith)
+    (λ k at. inl (rw same at)) (λ k here. inr (here, who, sym same)) before reached
     (nearest_still e past i (λ k. IsEventOf past k p (lane past p)) (λ k. IsEventOf past k p (lane past p)) forward (λ k at. event_below past k p (lane past p) at) (λ k at. at) (λ k at. at) before h) new
-  where
-    either : (k : ℕ) → IsEventOf (e ∷ past) k p (lane (e ∷ past) p) → IsEventOf past k p (lane past p) ⊎ (k ≡ length past)
-    either k (inl at) = inl (subst (IsEventOf past k p) same at)
-    either k (inr at) = inr at.0
 
 -- a new lane has no event yet
 pub lane_empty : (e : Entry) (past : List Entry) (i p : ℕ) → actor e ≡ None → lane (e ∷ past) p ≡ lane past p + 1 → Nearest (e ∷ past) i (λ k. IsEventOf (e ∷ past) k p (lane (e ∷ past) p)) None
-lane_empty e past i p none more = λ k n at c. no_event k at
-  where
-    no_event : (k : ℕ) → IsEventOf (e ∷ past) k p (lane (e ∷ past) p) → ⊥
-    no_event k (inl at) = omega (arith, event_lane past k p (lane (e ∷ past) p) at, more)
-    no_event k (inr at) = let x : None ≡ Some p = sym none ∙ at.1 in cc
+lane_empty e past i p none more = λ k n at c. grind (arith, event_lane past k p (lane (e ∷ past) p))
 
 -- the nearest events, if that of one process is set
 pub lanes_changed : (e : Entry) (past : List Entry) (i : ℕ) (lanes : List (Option ReachedEvent)) (q : ℕ) (found : Option ReachedEvent) → q < length lanes → AreForward (e ∷ past)
@@ -96,20 +84,16 @@ module _ (e : Entry) (past : List Entry) (i : ℕ) (forward : AreForward (e ∷ 
   way_through v here other x h = record {
     fewest = record {
       comes = onward x.position x.steps comes precedes refl;
-      least = λ n c. farther n (comes_newest e past i v n forward (sym here) c);
+      least = λ n c. grind (arith, comes_newest e past i v n forward (sym here) c);
     };
-    last = λ m is. (precedes, subst (HasPath (e ∷ past) i x.position) (let same : x.steps ≡ m = omega (arith, is) in same) comes);
+    last = λ m is. (precedes, rw (let same : m ≡ x.steps = omega (arith, is) in same) comes);
   }
     where
       comes : HasPath (e ∷ past) i x.position x.steps
       comes = comes_more e past i x.position x.steps h.1
 
       precedes : DirectlyPrecedes (e ∷ past) x.position v
-      precedes = subst (λ y. DirectlyPrecedes (e ∷ past) x.position y) here (next_preceded e past x.position h.0)
-
-      farther : (n : ℕ) → ComesNewest e past i n → x.steps + 1 ≤ n
-      farther n (is_newest is event none) = absurd (other is event)
-      farther n (through j m kind c is) = let far = h.2 j m kind c in omega (arith, far, is)
+      precedes = rw (← here) (next_preceded e past x.position h.0)
 
   -- an event is not reached if none that directly precedes it is
   pub no_way : (v : ℕ) → length past ≡ v → (i ≡ length past → is_some (actor e) ≡ true → ⊥) → Nearest past i (PrecedesNext e past) None → (n : ℕ) → HasPath (e ∷ past) i v n → ⊥
@@ -160,7 +144,7 @@ lanes_none i n = λ p below. subst (Nearest [] i (λ k. IsEventOf [] k p 0)) (sy
 -- the nearest event, if any, is reached by fewer steps than this number of entries
 pub nearest_below : (past : List Entry) (i : ℕ) (A : ℕ → Type 0) (n : ℕ) (found : Option ReachedEvent) → AreForward past → length past ≡ n → Nearest past i A found → IfSome found (λ x. x.steps < n)
 nearest_below past i A n None forward long h = tt
-nearest_below past i A n (Some x) forward long h = omega (arith, nearest_few past i A x forward h, long)
+nearest_below past i A n (Some x) forward long h = omega (arith, comes_few past i x.position x.steps forward h.1, comes_within past i x.position x.steps h.1, long)
 
 -- the event one step back is reached by one step less
 pub step_back : (past : List Entry) (i k n : ℕ) (w : PathStep) → IsPathStep past i k w → IsLeastDistance past i k (n + 1) → DirectlyPrecedes past w.previous k × IsLeastDistance past i w.previous n

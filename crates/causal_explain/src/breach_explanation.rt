@@ -22,6 +22,7 @@ use std::alloc::Global;
 ///
 /// # Errors
 /// `NoMemory` if an allocation failed.
+#[tactic(auto, using(causal_trace::proofs::Lemmas::AtInstants::delivered_in))]
 pub fn explain(alloc: Global, trace: &Trace, breach: &Breach) -> Result<Explanation, NoMemory>
     requires within { breach.now.instant ≤ length trace.now.recording.past }
     requires orphan { IsOrphan trace.now.recording.processes

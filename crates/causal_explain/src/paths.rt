@@ -59,6 +59,7 @@ fn reached_by(way: Option<PathStep>, position: u32) -> Option<ReachedEvent>
 }
 
 /// Returns the event at a position, if it was read and is reached.
+#[tactic(auto, using(crate::proofs::ComingLemmas::comes_within))]
 fn reached_at(ways: &[Option<PathStep>], position: u32) -> Option<ReachedEvent>
     ensures { (past : List Entry) (i : ℕ) → ArePathSteps past i ways.now →
         Nearest past i (λ k. k ≡ position) result }
@@ -125,6 +126,7 @@ fn path_step_to(
 }
 
 /// Updates the nearest event of each lane by one more entry.
+#[tactic(auto, using(crate::proofs::WayLemmas::lanes_joined, crate::proofs::WayLemmas::lanes_restarted, crate::proofs::WayLemmas::lanes_still))]
 fn note_reached(lanes: &mut [Option<ReachedEvent>], entry: &Entry, reached: Option<ReachedEvent>)
     requires { length lanes.old ≡ 256 }
     ensures { (past : List Entry) (i : ℕ) → AreForward (entry.now ∷ past) →

@@ -44,6 +44,7 @@ pub fn safe_range(alloc: Global, trace: &Trace) -> Result<SafeRange, NoMemory>
 }
 
 /// Returns the greatest number of processes that are down at once. Each pass over the entries halves the interval.
+#[tactic(auto, using(crate::proofs::RangeLemmas::all_at_most))]
 fn most_down(trace: &Trace) -> u16
     ensures most { FirstExcess trace.now.recording result None }
     ensures fewer { (f : ℕ) → f < result → HasExcessInstant trace.now.recording f }

@@ -1,11 +1,6 @@
-use Rattle.std.proofs.Common.{arith}
 use Rattle.causal_trace.specs.Past.{instant}
 use Rattle.causal_explain.proofs.OrphanLemmas.{depends_led}
-use Rattle.causal_trace.proofs.Lemmas.AtInstants.{delivered_in}
 use Rattle.causal_explain.proofs.breach_explanation.explain.Goals as goal
-
-pub unreachable-requires : goal.unreachable-requires
-unreachable-requires c = grind (arith, delivered_in)
 
 pub unreachable-requires-in_default-found : goal.unreachable-requires-in_default-found
 unreachable-requires-in_default-found c =
@@ -13,6 +8,3 @@ unreachable-requires-in_default-found c =
     let b = c.args.breach.now in
     let led = depends_led (instant r.past b.instant) b.delivery b.orphan c.requires.orphan.depends in
     (rw c.in_default-found.is at c.in_ok-found.ensures) led.0 led.1
-
-pub returns : goal.returns
-returns c = grind (arith, delivered_in)

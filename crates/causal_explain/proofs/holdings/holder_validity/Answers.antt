@@ -1,9 +1,7 @@
-use Rattle.std.proofs.Common.{◌≡◌, List, length, refl, ap, subst, ◌∙◌, arith}
+use Rattle.std.proofs.Common.{◌≡◌, List, length, refl, arith}
 use Rattle.causal_trace.specs.declared.entry.Entry.{Entry}
 use Rattle.causal_trace.specs.Past.{logs}
-use Rattle.causal_trace.specs.State.{past_at}
 use Rattle.causal_trace.proofs.Lemmas.Instants.{past_whole}
-use Rattle.causal_explain.specs.Inside.Validities.{AreValidities}
 use Rattle.causal_explain.proofs.StandingLemmas.{stand_next, stand_none}
 use Rattle.causal_explain.proofs.holdings.holder_validity.Goals as goal
 
@@ -18,6 +16,5 @@ loop-i-preserved c = record {
 
 pub returns : goal.returns
 returns c =
-    let entries = c.args.entries.now in
-    let ended : c.loop-i.i ≡ length entries = omega (arith, c.loop-i-test.false, c.loop-i.auto) in
-    subst (λ past. AreValidities past (λ p state. logs state p c.args.det) c.loop-i.standings) (ap (past_at entries) ended ∙ past_whole entries) c.loop-i.invariant.stand
+    let ended : c.loop-i.i ≡ length c.args.entries.now = omega (arith, c.loop-i-test.false, c.loop-i.auto) in
+    rw (ended, past_whole c.args.entries.now) at c.loop-i.invariant.stand

@@ -1,39 +1,26 @@
-use Rattle.std.proofs.Common.{◌≡◌, ◌+◌, ◌<◌, ◌∷◌, [], List, length, refl, subst, sym, arith}
+use Rattle.std.proofs.Common.{◌∷◌, List, refl, arith}
 use Rattle.causal_trace.specs.declared.entry.Entry.{Entry}
 use Rattle.causal_trace.specs.Past.{logs}
 use Rattle.causal_trace.specs.State.{past_at}
 use Rattle.causal_trace.proofs.Lemmas.Instants.{past_more, past_length, past_whole}
-use Rattle.causal_explain.specs.Inside.Marks.{AreMarks}
-use Rattle.causal_explain.specs.Inside.Validities.{AreValidities}
 use Rattle.causal_explain.proofs.MarkLemmas.{marks_more, marks_none}
 use Rattle.causal_explain.proofs.StandingLemmas.{stand_none}
 use Rattle.causal_explain.proofs.marks.events_of_kind.Goals as goal
 
 pub loop-i-init : goal.loop-i-init
-loop-i-init c = record {
-  count = refl;
-  stand = stand_none (λ p (past : List Entry). logs past p c.args.det) 256 (λ p. refl);
-  marked = subst (AreMarks c.args.kind [] c.args.det) (sym c.in_ok-marks.ensures.items) (marks_none c.args.kind c.args.det);
-  len = c.in_ok-marks.ensures.len;
-  room = c.in_ok-marks.ensures.capacity;
-}
+loop-i-init c = grind (arith, marks_none c.args.kind c.args.det, stand_none (λ p (past : List Entry). logs past p c.args.det) 256 (λ p. refl))
 
 pub loop-i-preserved : goal.loop-i-preserved
 loop-i-preserved c =
-    let entries = c.args.entries.now in
-    let i = c.loop-i.i in
-    let d = c.args.det in
     let e = c.index-entries-i.result in
-    let before = past_at entries i in
-    let below : i < length entries = c.loop-i-test.true in
-    let next : past_at entries (i + 1) ≡ e ∷ before = past_more entries i e below c.index-entries-i.is in
-    let stand : AreValidities (e ∷ before) (λ p state. logs state p d) c.apply_change.new.standings =
-    c.apply_change.ensures (λ p state. logs state p d) e before (past_length entries i (omega (arith, below))) c.holder_change.ensures c.loop-i.invariant.stand in
+    let next = past_more c.args.entries.now c.loop-i.i e c.loop-i-test.true c.index-entries-i.is in
+    let long = past_length c.args.entries.now c.loop-i.i (omega (arith, c.loop-i-test.true)) in
+    let before = past_at c.args.entries.now c.loop-i.i in
+    let stand = c.apply_change.ensures (λ p state. logs state p c.args.det) e before long c.holder_change.ensures c.loop-i.invariant.stand in
     record {
       count = omega (arith, c.loop-i.invariant.count, c.apply_change.auto.standings);
-      stand = subst (λ past. AreValidities past (λ p state. logs state p d) c.apply_change.new.standings) (sym next) stand;
-      marked = rw (next, c.push_reserved.ensures.items)
-          (marks_more e before d c.args.kind c.loop-i.marks.items c.is_of_kind.result c.loop-i.invariant.marked (c.is_of_kind.ensures (e ∷ before) d stand));
+      stand = rw next stand;
+      marked = rw (next, c.push_reserved.ensures.items) (marks_more e before c.args.det c.args.kind _ c.is_of_kind.result c.loop-i.invariant.marked (c.is_of_kind.ensures (e ∷ before) c.args.det stand));
       len = omega (arith, c.push_reserved.ensures.len, c.loop-i.invariant.len);
       room = omega (arith, c.push_reserved.ensures.capacity, c.loop-i.invariant.room);
     }

@@ -1,13 +1,18 @@
-use Rattle.std.proofs.Common.{arith, subst}
-use Rattle.causal_explain.specs.Inside.Validities.{IsValidity}
-use Rattle.causal_explain.proofs.StandingLemmas.{ends_never, ends, stays_ended}
+use Rattle.std.proofs.Common.{sym, ◌∙◌, arith}
+use Rattle.std.specs.Prelude.{not}
+use Rattle.std.proofs.lemmas.Bool.{not-true}
+use Rattle.causal_explain.specs.declared.validity.Validity.TheVariants.{Ended}
+use Rattle.causal_explain.proofs.SinceLemmas.{holds_now}
+use Rattle.causal_explain.proofs.StandingLemmas.{ends, still_stands}
 use Rattle.causal_explain.proofs.validity.Validity.end_at.Goals as goal
 
 pub returns-in-Never : goal.returns-in-Never
-returns-in-Never c test e past is fails h = grind (arith, ends_never)
+returns-in-Never c test e past is fails h = grind arith
 
 pub returns-in-Holds : goal.returns-in-Holds
 returns-in-Holds c test e past is fails h = grind (arith, ends)
 
 pub returns-in-Ended : goal.returns-in-Ended
-returns-in-Ended c test e past is fails h = stays_ended e past test c.in-Ended.span fails (subst (IsValidity past test) c.in-Ended.is h)
+returns-in-Ended c test e past is fails h =
+    let over = rw c.in-Ended.is at h in
+    still_stands e past test (Ended c.in-Ended.span) (fails ∙ sym (not-true _ (holds_now past (λ state. not (test state)) c.in-Ended.span.to over.0.0))) over
