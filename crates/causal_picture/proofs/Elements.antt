@@ -1,5 +1,5 @@
 -- The elements of parts, one after another.
-use Rattle.std.proofs.Common.{◌≡◌, ◌+◌, ◌<◌, ◌++◌, List, [], ◌∷◌, ℕ, false, length, take, get_or, refl, sym, subst, append_assoc}
+use Rattle.std.proofs.Common.{◌≡◌, ◌+◌, ◌<◌, ◌++◌, List, [], ◌∷◌, ℕ, false, length, take, get_or, refl, sym, append_assoc}
 use Rattle.std.proofs.lemmas.List.{append-nil, take_more}
 use Rattle.std.specs.Prelude.{◌==◌, codes, Option}
 use Rattle.std.specs.List.{list_any}
@@ -43,15 +43,9 @@ elements-more [] part text own none is = (own, [], is, refl, rw none (sym (appen
 elements-more (p ∷ parts) part text own (first, rest, here, there, whole) is =
     (first, rest ++ own, here, elements-more parts part rest own there is, rw whole (append_assoc first rest own))
 
-take_part : (parts xs : List DrawnPart) (i : ℕ) (d : DrawnPart) → xs ≡ parts → i < length xs → take (i + 1) parts ≡ take i parts ++ (get_or xs i d ∷ [])
-take_part parts xs i d same within = rw (sym same) (take_more xs i d within)
-
 -- the element of the next part, after those of the parts before it
 pub part_written : (parts xs : List DrawnPart) (i : ℕ) (d : DrawnPart) (x y z : List ℕ) → xs ≡ parts → i < length xs
     → ((added : List ℕ) × AreElements (take i parts) added × (y ≡ x ++ added)) → ((own : List ℕ) × IsElement (get_or xs i d) own × (z ≡ y ++ own))
     → (added : List ℕ) × AreElements (take (i + 1) parts) added × (z ≡ x ++ added)
-part_written parts xs i d x y z same within (text, each, first) (own, is, last) = (
-  text ++ own,
-  subst (λ ps. AreElements ps (text ++ own)) (sym (take_part parts xs i d same within)) (elements-more (take i parts) (get_or xs i d) text own each is),
-  rw (last, first) (append_assoc x text own),
-)
+part_written parts xs i d x y z same within (text, each, first) (own, is, last) =
+    (text ++ own, rw (← same, take_more xs i d within) (elements-more (take i xs) (get_or xs i d) text own (rw (← same) at each) is), rw (last, first) (append_assoc x text own))

@@ -1,13 +1,13 @@
 -- Each entry of a run has an event to draw.
-use Rattle.std.proofs.Common.{◌≡◌, ℕ, ◌+◌, ◌<◌, ◌≤◌, zero, suc, inl, inr, true, false, List, [], ◌∷◌, length, refl, ap, ◌∙◌, arith}
-use Rattle.std.specs.Prelude.{◌==◌, map, Option, Some, None}
+use Rattle.std.proofs.Common.{◌≡◌, ℕ, ◌+◌, ◌<◌, ◌≤◌, zero, suc, inl, inr, true, false, List, [], ◌∷◌, length, refl, ◌∙◌, arith}
+use Rattle.std.specs.Prelude.{map, Option, Some, None}
 use Rattle.std.specs.List.{filter_map, range_with_len}
 use Rattle.std.specs.Option.{option_map, option_map_or, option_and_then}
 use Rattle.std.proofs.lemmas.Bool.{false≢true, ne_eqb, cond-true, cond-false}
 use Rattle.std.proofs.lemmas.Bool.Decides.{eqb_tells}
 use Rattle.causal_name.specs.declared.Pid.{Pid}
 use Rattle.causal_trace.specs.declared.entry.Entry.{Entry}
-use Rattle.causal_trace.specs.declared.entry.Entry.TheVariants.{Send, Deliver, Stable, Crash, Restart, Forget}
+use Rattle.causal_trace.specs.declared.entry.Entry.TheVariants.{Send, Deliver}
 use Rattle.causal_trace.specs.Past.{entry_at, is_send_to, is_sent_to, message_sent, det_from}
 use Rattle.causal_trace.specs.Rows.{AreLegalEntries, first_fault}
 use Rattle.causal_trace.proofs.Lemmas.EntryFacts.{delivers_sent, sent_within}
@@ -23,21 +23,13 @@ IsSupplied past (Deliver to send rsn listed) = is_sent_to past send to.0 ≡ tru
 IsSupplied past _ = Unit {0}
 
 supplied_next : (n : ℕ) (past : List Entry) (e : Entry) → first_fault n past e ≡ None → IsSupplied past e
-supplied_next n past (Send from to ssn) h = tt
 supplied_next n past (Deliver to send rsn listed) h = delivers_sent n past to send rsn listed h
-supplied_next n past (Stable det) h = tt
-supplied_next n past (Crash who) h = tt
-supplied_next n past (Restart who listed) h = tt
-supplied_next n past (Forget who listed) h = tt
+supplied_next n past _ h = tt
 
 -- it was sent also after one more entry
 supplied_then : (e : Entry) (past : List Entry) (x : Entry) → IsSupplied past x → IsSupplied (e ∷ past) x
-supplied_then e past (Send from to ssn) h = tt
 supplied_then e past (Deliver to send rsn listed) h = grind (arith, sent_within past send to.0 h, cond-false, ne_eqb)
-supplied_then e past (Stable det) h = tt
-supplied_then e past (Crash who) h = tt
-supplied_then e past (Restart who listed) h = tt
-supplied_then e past (Forget who listed) h = tt
+supplied_then e past _ h = tt
 
 -- each delivery in a well-formed run has a send
 supplied_at : (n : ℕ) (past : List Entry) → AreLegalEntries n past → (k : ℕ) → k < length past
@@ -45,40 +37,21 @@ supplied_at : (n : ℕ) (past : List Entry) → AreLegalEntries n past → (k : 
 supplied_at n [] all k h = absurd (omega arith)
 supplied_at n (e ∷ past) all k h =
     elim (eqb_tells k (length past)) [
-      | inl here ↦
-          let own = supplied_then e past e (supplied_next n past e all.1) in
-          (e, cond-true (k == length past) (Some e) (entry_at past k) here.0, own)
+      | inl here ↦ (e, cond-true _ _ _ here.0, supplied_then e past e (supplied_next n past e all.1))
       | inr apart ↦
-          let other = apart.1 in
-          let rest = supplied_at n past all.0 k (omega arith) in
-          let at = cond-false (k == length past) (Some e) (entry_at past k) apart.0 ∙ rest.1 in
-          (rest.0, at, supplied_then e past rest.0 rest.2)
+          let rest = supplied_at n past all.0 k (let other = apart.1 in omega arith) in
+          (rest.0, cond-false _ _ _ apart.0 ∙ rest.1, supplied_then e past rest.0 rest.2)
     ]
 
 -- a delivery of a sent message has an event
-delivery_told : (to : Pid) (send rsn : ℕ) (e : Entry) → is_send_to to.0 e ≡ true
-    → (what : MarkEvent) × (option_map (λ m. shown.Delivery (det_from to rsn m) send) (message_sent e) ≡ Some what)
-delivery_told to send rsn (Send from other ssn) h =
-    (shown.Delivery (det_from to rsn (record { source = from; ssn = ssn })) send, refl)
-delivery_told to send rsn (Deliver other sent place listed) h = absurd (false≢true h)
-delivery_told to send rsn (Stable det) h = absurd (false≢true h)
-delivery_told to send rsn (Crash who) h = absurd (false≢true h)
-delivery_told to send rsn (Restart who listed) h = absurd (false≢true h)
-delivery_told to send rsn (Forget who listed) h = absurd (false≢true h)
+delivery_told : (to : Pid) (send rsn : ℕ) (o : Option Entry) → option_map_or (is_send_to to.0) o false ≡ true
+    → (what : MarkEvent) × (option_map (λ m. shown.Delivery (det_from to rsn m) send) (option_and_then message_sent o) ≡ Some what)
+delivery_told to send rsn (Some (Send from other ssn)) h = (_, refl)
+delivery_told to send rsn _ h = absurd (false≢true h)
 
 event_told : (past : List Entry) (x : Entry) → IsSupplied past x → (what : MarkEvent) × (mark_event_of past x ≡ Some what)
-event_told past (Send from to ssn) h = (shown.Send from to ssn, refl)
-event_told past (Deliver to send rsn listed) h =
-    elim (entry_at past send) as (λ o. option_map_or (is_send_to to.0) o false ≡ true
-    → (what : MarkEvent)
-    × (option_map (λ m. shown.Delivery (det_from to rsn m) send) (option_and_then message_sent o) ≡ Some what)) [
-      | None ↦ λ k. absurd (false≢true k)
-      | Some e ↦ λ k. delivery_told to send rsn e k
-    ] h
-event_told past (Stable det) h = (shown.Stable det, refl)
-event_told past (Crash who) h = (shown.Crash who, refl)
-event_told past (Restart who listed) h = (shown.Restart who, refl)
-event_told past (Forget who listed) h = (shown.Forget who (length listed), refl)
+event_told past (Deliver to send rsn listed) h = delivery_told to send rsn (entry_at past send) h
+event_told past _ h = (_, refl)
 
 -- each position of a well-formed run has an event
 mark_there : (n : ℕ) (past : List Entry) → AreLegalEntries n past → (k : ℕ) → k < length past
@@ -86,10 +59,7 @@ mark_there : (n : ℕ) (past : List Entry) → AreLegalEntries n past → (k : �
 mark_there n past all k h =
     let at = supplied_at n past all k h in
     let what = event_told past at.0 at.2 in
-    let told : option_and_then (mark_event_of past) (entry_at past k) ≡ Some what.0 =
-    ap (option_and_then (mark_event_of past)) at.1 ∙ what.1 in
-    let mark : MarkEvent → Mark = λ e. record { position = k; event = e } in
-    (record { position = k; event = what.0 }, ap (option_map mark) told, refl)
+    (record { position = k; event = what.0 }, rw (at.1, what.1), refl)
 
 positions_shown : (h : ℕ → Option Mark) (a c : ℕ)
     → ((k : ℕ) → a ≤ k → k < a + c → (m : Mark) × (h k ≡ Some m) × (m.position ≡ k))
@@ -97,10 +67,7 @@ positions_shown : (h : ℕ → Option Mark) (a c : ℕ)
 positions_shown h a zero each = refl
 positions_shown h a (suc c) each =
     let first = each a (omega arith) (omega arith) in
-    let own : first.0.position ≡ a = first.2 in
-    let rest : map (λ (m : Mark). m.position) (filter_map h (range_with_len (a + 1) c)) ≡ range_with_len (a + 1) c =
-    positions_shown h (a + 1) c (λ k low high. each k (omega arith) (omega arith)) in
-    rw (first.1, own, rest) refl
+    rw (first.1, first.2, positions_shown h (a + 1) c (λ k low high. each k (omega arith) (omega arith))) refl
 
 -- the events drawn for a range are those of its entries, one for each
 pub each_shown : (n : ℕ) (past : List Entry) (s : EntryRange) (marks : List Mark)

@@ -4,11 +4,6 @@ use Rattle.std.specs.Ordering.{nat_cmp}
 use Rattle.std.specs.FinSet.{FinSet}
 use Rattle.causal_holders.specs.Members.{ascending}
 
--- before the first member, no part is added
-pub added-none : {X : Type 0} (f : List ℕ → List X) (out : List X) (rest all : FinSet nat_cmp) → rest ≡ all
-    → out ++ f (ascending all) ≡ out ++ f (ascending rest)
-added-none f out rest all same = ap (λ s. out ++ f (ascending s)) (sym same)
-
 -- after the next member, its parts are added
 pub added-member : {X : Type 0} (f : List ℕ → List X) (whole before after own : List X) (p : ℕ) (rest next : FinSet nat_cmp)
     → ascending rest ≡ p ∷ ascending next → f (p ∷ ascending next) ≡ own ++ f (ascending next) → after ≡ before ++ own

@@ -1,16 +1,13 @@
 -- Facts on the entries that a picture shows.
-use Rattle.std.proofs.Common.{◌≡◌, ℕ, ◌+◌, ◌-◌, ◌<◌, ◌≤◌, true, false, refl, ◌∙◌, arith}
-use Rattle.std.specs.Prelude.{◌||◌, length, Option, Some, None, IfSome}
+use Rattle.std.proofs.Common.{◌≡◌, ℕ, ◌+◌, ◌-◌, ◌<◌, ◌≤◌, true, false, refl, arith}
+use Rattle.std.specs.Prelude.{◌||◌, Option, Some, None, IfSome}
 use Rattle.std.proofs.lemmas.Bool.{le-leb, lt-ltb, ltb-true, ltb-false}
-use Rattle.causal_trace.specs.Rows.{Recording}
 use Rattle.causal_picture.specs.declared.focus.Focus.{Focus}
 use Rattle.causal_picture.specs.declared.entry_range.Grid.{Grid}
 use Rattle.causal_picture.specs.declared.entry_range.EntryRange.{EntryRange}
 use Rattle.std.specs.Ordering.{nat_cmp}
 use Rattle.std.specs.FinSet.{FinSet}
-use Rattle.causal_picture.specs.Rows.{shown_processes}
-use Rattle.causal_picture.specs.declared.selection.Selection.{Selection}
-use Rattle.causal_picture.specs.EntryRanges.{first_around, first_near, choose_grid, one_range_grid, two_range_grid, grid_around_focus, grid_around_chain, grid_around, instant_of, least_of, is_within, is_shown, GridFits, ReachesInstant, ShowsFirst}
+use Rattle.causal_picture.specs.EntryRanges.{first_around, first_near, choose_grid, one_range_grid, two_range_grid, grid_around_focus, grid_around_chain, instant_of, least_of, is_within, is_shown, GridFits, ReachesInstant, ShowsFirst}
 
 -- a position from the start of a range and before its end is in the range
 within-true : (s : EntryRange) (k : ℕ) → s.first ≤ k → k < s.first + s.count → is_within s k ≡ true
@@ -21,6 +18,15 @@ shown-early g k h = rw h refl
 
 shown-late : (g : Grid) (k : ℕ) → is_within g.late k ≡ true → is_shown g k ≡ true
 shown-late g k h = elim (is_within g.early k) as (λ b. (b || is_within g.late k) ≡ true) [ true ↦ refl | false ↦ h ]
+
+-- the grid chosen for a focus and a selected entry is as required
+pub record IsChosen (entries : ℕ) (focus : Option Focus) (around : Option ℕ) (g : Grid) : Type 0 where
+  pub within : GridFits entries g
+  pub few : g.early.count + g.late.count ≤ 200
+  -- without a selected entry, the entry before the instant and the first entry of the chain are shown
+  pub reaches : around ≡ None → IfSome focus (ReachesInstant entries g)
+  pub first : around ≡ None → IfSome focus (ShowsFirst entries g)
+  pub selected : IfSome around (λ position. position < entries → is_shown g position ≡ true)
 
 -- the grid of a run around instant t whose chain begins at position `least` is as required
 record IsGood (entries least t : ℕ) (g : Grid) : Type 0 where
@@ -42,48 +48,20 @@ module _ (entries n : ℕ) (shown : FinSet nat_cmp) where
   placed-good : (f : Focus) → IsGood entries (least_of entries f.chain.now) (instant_of entries f) (grid_around_focus entries n shown f)
   placed-good f = either-good (least_of entries f.chain.now) (instant_of entries f) (omega arith)
 
-  -- the ranges are within the run
-  chosen-within : (focus : Option Focus) (around : Option ℕ) → GridFits entries (choose_grid entries n shown focus around)
-  chosen-within focus (Some position) = record { before = omega arith; within = omega arith }
-  chosen-within None None = record { before = omega arith; within = omega arith }
-  chosen-within (Some f) None = (placed-good f).within
-
-  -- at most 200 entries are shown
-  chosen-few : (focus : Option Focus) (around : Option ℕ) → (choose_grid entries n shown focus around).early.count + (choose_grid entries n shown focus around).late.count ≤ 200
-  chosen-few focus (Some position) = omega arith
-  chosen-few None None = omega arith
-  chosen-few (Some f) None = (placed-good f).few
-
   -- a selected entry is shown
   near-shown : (position : ℕ) → position < entries → is_shown (one_range_grid entries n shown (first_near entries position)) position ≡ true
   near-shown position less =
       let g = one_range_grid entries n shown (first_near entries position) in
       shown-early g position (within-true g.early position (omega (arith, less)) (omega (arith, less)))
 
--- the ranges are within the run
-pub grid-within : (r : Recording) (focus : Option Focus) (s : Selection) (g : Grid) → g ≡ grid_around r focus s → GridFits (length r.past) g
-grid-within r focus s g is = rw is (chosen-within (length r.past) r.processes (shown_processes r focus s) focus s.around)
-
--- at most 200 entries are shown
-pub grid-few : (r : Recording) (focus : Option Focus) (s : Selection) (g : Grid) → g ≡ grid_around r focus s → g.early.count + g.late.count ≤ 200
-grid-few r focus s g is = rw is (chosen-few (length r.past) r.processes (shown_processes r focus s) focus s.around)
-
--- without a selected entry, the entry before the instant is shown
-pub grid-reaches : (r : Recording) (focus : Option Focus) (s : Selection) (g : Grid) → g ≡ grid_around r focus s → s.around ≡ None → IfSome focus (ReachesInstant (length r.past) g)
-grid-reaches r None s g is none = tt
-grid-reaches r (Some f) s g is none = rw (is, none) (placed-good (length r.past) r.processes (shown_processes r (Some f) s) f).instant
-
--- without a selected entry, the first entry of the chain is shown
-pub grid-first : (r : Recording) (focus : Option Focus) (s : Selection) (g : Grid) → g ≡ grid_around r focus s → s.around ≡ None → IfSome focus (ShowsFirst (length r.past) g)
-grid-first r None s g is none = tt
-grid-first r (Some f) s g is none = rw (is, none) (placed-good (length r.past) r.processes (shown_processes r (Some f) s) f).first
-
--- a selected entry is shown
-selected-shown : (r : Recording) (focus : Option Focus) (shown : FinSet nat_cmp) (around : Option ℕ)
-    → IfSome around (λ position. position < length r.past → is_shown (choose_grid (length r.past) r.processes shown focus around) position ≡ true)
-selected-shown r focus shown None = tt
-selected-shown r focus shown (Some position) = near-shown (length r.past) r.processes shown position
-
-pub grid-selected : (r : Recording) (focus : Option Focus) (s : Selection) (g : Grid) → g ≡ grid_around r focus s
-    → IfSome s.around (λ position. position < length r.past → is_shown g position ≡ true)
-grid-selected r focus s g is = rw is (selected-shown r focus (shown_processes r focus s) s.around)
+  -- a chosen grid is as required
+  pub chosen : (focus : Option Focus) (around : Option ℕ) → IsChosen entries focus around (choose_grid entries n shown focus around)
+  chosen focus (Some position) = record {
+    within = record { before = omega arith; within = omega arith };
+    few = omega arith;
+    reaches = λ none. absurd (let no : Some position ≡ None = none in cc);
+    first = λ none. absurd (let no : Some position ≡ None = none in cc);
+    selected = near-shown position;
+  }
+  chosen None None = record { within = record { before = omega arith; within = omega arith }; few = omega arith; reaches = λ none. tt; first = λ none. tt; selected = tt }
+  chosen (Some f) None = let good = placed-good f in record { within = good.within; few = good.few; reaches = λ none. good.instant; first = λ none. good.first; selected = tt }

@@ -8,6 +8,7 @@ use causal_holders::Holders;
 use causal_trace::Entry;
 
 /// The down processes after one more entry.
+#[tactic(auto, using(crate::proofs::ShownMembers::members))]
 fn down_after_entry(mut down: Holders, entry: &Entry) -> Holders
     ensures { (past : List Entry) → ShowsDown past down → ShowsDown (entry.now ∷ past) result }
 {
@@ -20,14 +21,12 @@ fn down_after_entry(mut down: Holders, entry: &Entry) -> Holders
             down.remove(who.0);
             down
         }
-        Entry::Send { .. } => down,
-        Entry::Deliver { .. } => down,
-        Entry::Stable { .. } => down,
-        Entry::Forget { .. } => down,
+        _ => down,
     }
 }
 
 /// The down processes after these entries. O(entries) time.
+#[tactic(auto, using(crate::proofs::ShownMembers::members))]
 pub fn down_processes(entries: &[Entry]) -> Holders
     ensures { ShowsDown (past_at entries.now (length entries.now)) result }
 {

@@ -117,13 +117,7 @@ fn push_part(
             to,
             instant,
         } => push_band(out, &drawing.grid, *process, *from, *to, *instant),
-        DrawnPart::Row { .. } => push_group(out, trace, drawing, part),
-        DrawnPart::Up { .. } => push_group(out, trace, drawing, part),
-        DrawnPart::Event { .. } => push_group(out, trace, drawing, part),
-        DrawnPart::Chain => push_group(out, trace, drawing, part),
-        DrawnPart::Instant { .. } => push_group(out, trace, drawing, part),
-        DrawnPart::HiddenEntries { .. } => push_group(out, trace, drawing, part),
-        DrawnPart::HiddenProcesses { .. } => push_group(out, trace, drawing, part),
+        _ => push_group(out, trace, drawing, part),
     }
 }
 

@@ -48,6 +48,7 @@ pub struct Grid {
 /// it are shown. Around a selected entry 200 are shown, or all, whatever the focus is.
 ///
 /// O(chain + processes) time.
+#[tactic(auto, using(crate::proofs::Shown::chosen))]
 pub fn grid_around(trace: &Trace, focus: Option<&Focus<'_>>, selection: Selection) -> Grid
     ensures value { result
         ≡ stretches.grid_around trace.now.recording (option_copied focus.entry) selection }

@@ -15,6 +15,7 @@ use causal_holders::Holders;
 use causal_trace::Trace;
 
 /// Adds a process to a set.
+#[tactic(auto, using(crate::proofs::ShownMembers::members))]
 fn add(mut members: Holders, process: u8) -> Holders
     ensures { HasMembersOf result (λ p. contains members p || (process == p)) }
 {

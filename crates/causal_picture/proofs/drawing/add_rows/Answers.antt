@@ -1,13 +1,11 @@
 use Rattle.std.proofs.Common.{◌++◌, [], ◌∷◌, ap, ◌∙◌, map, refl}
 use Rattle.causal_picture.specs.declared.part.DrawnPart.TheVariants.{Row}
 use Rattle.causal_picture.specs.Drawings.{row_part, rows_of_shown}
-use Rattle.causal_picture.proofs.MemberParts.{added-none, added-member}
+use Rattle.causal_picture.proofs.MemberParts.{added-member}
 use Rattle.causal_picture.proofs.drawing.add_rows.Goals as goal
 
 pub loop-process-init : goal.loop-process-init
-loop-process-init c =
-    added-none (map (row_part c.args.crash)) c.args.parts.now.items c.into_iter-process-iterator.result c.args.grid.now.shown
-    (c.into_iter-process-iterator.ensures.into_iter_gives ∙ c.iter-process-items.ensures)
+loop-process-init c = rw (c.into_iter-process-iterator.ensures.into_iter_gives ∙ c.iter-process-items.ensures)
 
 pub loop-process-preserved : goal.loop-process-preserved
 loop-process-preserved c =

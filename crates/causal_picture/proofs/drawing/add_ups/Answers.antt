@@ -1,12 +1,10 @@
 use Rattle.std.proofs.Common.{◌++◌, ap, ◌∙◌, flat_map, refl}
 use Rattle.causal_picture.specs.Drawings.{up_at, up_unless, ups_of}
-use Rattle.causal_picture.proofs.MemberParts.{added-none, added-member}
+use Rattle.causal_picture.proofs.MemberParts.{added-member}
 use Rattle.causal_picture.proofs.drawing.add_ups.Goals as goal
 
 pub loop-process-init : goal.loop-process-init
-loop-process-init c =
-    added-none (flat_map (up_at c.args.trace.now.recording c.args.is_late c.args.range.first c.args.marks.now)) c.args.parts.now.items
-    c.into_iter-process-iterator.result c.args.grid.now.shown (c.into_iter-process-iterator.ensures.into_iter_gives ∙ c.iter-process-items.ensures)
+loop-process-init c = rw (c.into_iter-process-iterator.ensures.into_iter_gives ∙ c.iter-process-items.ensures)
 
 pub loop-process-preserved : goal.loop-process-preserved
 loop-process-preserved c =

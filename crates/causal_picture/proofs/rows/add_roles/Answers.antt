@@ -1,6 +1,7 @@
 use Rattle.std.proofs.Common.{arith}
-use Rattle.causal_picture.proofs.ShownMembers.{some_more}
+use Rattle.std.specs.Cmp.{nat_cmp_total}
+use Rattle.std.specs.FinSet.{contains-union}
 use Rattle.causal_picture.proofs.rows.add_roles.Goals as goal
 
 pub returns-in-Some : goal.returns-in-Some
-returns-in-Some c p = grind (arith, some_more c.args.members c.in-Some.orphan.holders c.add.result c.in-Some.orphan.process p (c.add.ensures p))
+returns-in-Some c p = grind (arith, contains-union nat_cmp_total c.add.result c.in-Some.orphan.holders p, c.add.ensures p)
