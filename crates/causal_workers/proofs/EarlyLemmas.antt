@@ -1,5 +1,5 @@
 -- The audits at the checkpoints of a text, as more of it is read.
-use Rattle.std.proofs.Common.{◌≡◌, ◌++◌, ◌⊎◌, inl, inr, ℕ, ◌≤◌, List, [], true, length, append_assoc, append-nil, sym, ap, subst, ◌∙◌, take, Option, Some, None, arith}
+use Rattle.std.proofs.Common.{◌≡◌, ◌++◌, ◌⊎◌, inl, inr, ℕ, ◌≤◌, List, [], true, length, append_assoc, append-nil, sym, ap, subst, ◌∙◌, take, Option, arith}
 use Rattle.std.specs.Prelude.{IfSome}
 use Rattle.std.specs.Io.KnownBytes.{Consumes, Keeps, IsAtEnd}
 use Rattle.std.proofs.KnownBytes.{Consumes-kept, Consumes-nil, Consumes-trans}
@@ -16,9 +16,8 @@ use Rattle.causal_audit.proofs.Lemmas.Beginnings.{beginnings_decide}
 use Rattle.causal_workers.specs.Streaming.{EarlyBreachIsFinal, HasNoEarlyBreach, IsBreachSoFar, IsEarlyBreach, IsLook, ExplainsVerdictError, StopsOnceJudged, is_checkpoint_length}
 use Rattle.causal_workers.specs.Inside.PieceOutcomes.{IsPieceOutcome}
 use Rattle.causal_workers.specs.declared.looks.Looks.{Looks}
-use Rattle.causal_workers.specs.declared.looks.Looks.TheVariants.{Checkpoints, Live}
+use Rattle.causal_workers.specs.declared.looks.Looks.TheVariants.{Checkpoints}
 use Rattle.causal_workers.specs.declared.streaming.PieceOutcome.{PieceOutcome}
-use Rattle.causal_workers.specs.declared.streaming.PieceOutcome.TheVariants.{More, Breach}
 use Rattle.causal_workers.specs.declared.streaming.VerdictError.TheVariants.{Input}
 use Rattle.causal_audit.specs.declared.judged.Judged.{Judged}
 
@@ -26,10 +25,7 @@ use Rattle.causal_audit.specs.declared.judged.Judged.{Judged}
 pub none_more : (most : ℕ) (b line : List ℕ) (f : ℕ) → HasNoEarlyBreach most b f
     → ((r : Recording) → HasPrefixSpelling most (b ++ line) r → HasPrefixSpelling most b r ⊎ SpellsSoFar most (b ++ line) r)
     → ((r : Recording) → SpellsSoFar most (b ++ line) r → is_checkpoint_length (length r.past) ≡ true → IsSafeTrace r f) → HasNoEarlyBreach most (b ++ line) f
-none_more most b line f none newly safe r x look = told (newly r x) where
-  told : HasPrefixSpelling most b r ⊎ SpellsSoFar most (b ++ line) r → IsSafeTrace r f
-  told (inl y) = none r y look
-  told (inr y) = safe r y look
+none_more most b line f none newly safe r x look = elim (newly r x) [ inl y ↦ none r y look | inr y ↦ safe r y look ]
 
 -- after a part of a line no audit at a checkpoint is new
 pub part_read : (most f : ℕ) (b done part piece : List ℕ) (next : PushReaderState) → piece ≡ done ++ part → HasReceived most next ((b ++ done) ++ part) → HasNoEarlyBreach most (b ++ done) f
@@ -52,35 +48,17 @@ early_in looks most b done line after more f judged none complete breach =
 
 -- a breach that an audit finds is one that an audit at more times may find
 pub looser_breach : (few looks : Looks) (most : ℕ) (bytes : List ℕ) (f : ℕ) (judged : Judged) → ((n : ℕ) → IsLook few n → IsLook looks n) → IsBreachSoFar few most bytes f judged → IsBreachSoFar looks most bytes f judged
-looser_breach few looks most bytes f judged looser found = record {
-  recording = found.recording;
-  says = found.says;
-  looked = looser (length found.recording.past) found.looked;
-  verdict = found.verdict;
-  breach = found.breach;
-  entries = found.entries;
-  deliveries = found.deliveries;
-}
+looser_breach few looks most bytes f judged looser found = grind arith
 
-pub looser_early : (few looks : Looks) (most : ℕ) (text : List ℕ) (f : ℕ) (judged : Judged) → ((n : ℕ) → IsLook few n → IsLook looks n) → IsEarlyBreach few most text f judged → IsEarlyBreach looks most text f judged
-looser_early few looks most text f judged looser early = record {
-  before = early.before;
-  line = early.line;
-  more = early.more;
-  split = early.split;
-  complete = early.complete;
-  none = early.none;
-  breach = looser_breach few looks most (early.before ++ early.line) f judged looser early.breach;
-}
+looser_early : (few looks : Looks) (most : ℕ) (text : List ℕ) (f : ℕ) (judged : Judged) → ((n : ℕ) → IsLook few n → IsLook looks n) → IsEarlyBreach few most text f judged → IsEarlyBreach looks most text f judged
+looser_early few looks most text f judged looser early = grind (arith, looser_breach)
 
 pub looser_piece : (few looks : Looks) (most : ℕ) (b piece : List ℕ) (f : ℕ) (heard : PieceOutcome) → ((n : ℕ) → IsLook few n → IsLook looks n) → IsPieceOutcome few most b piece f heard → IsPieceOutcome looks most b piece f heard
-looser_piece few looks most b piece f (More next) looser outcome = outcome
-looser_piece few looks most b piece f (Breach judged) looser outcome = λ more. looser_early few looks most ((b ++ piece) ++ more) f judged looser (outcome more)
+looser_piece few looks most b piece f heard looser outcome = grind (arith, looser_early)
 
 -- an audit at a checkpoint is one at any of these times
 pub at_checkpoint : (looks : Looks) (n : ℕ) → IsLook Checkpoints n → IsLook looks n
-at_checkpoint Checkpoints n look = look
-at_checkpoint Live n look = tt
+at_checkpoint looks n look = grind arith
 
 -- a trace is audited at each checkpoint
 pub checkpoint_looked : (looks : Looks) (n : ℕ) → is_checkpoint_length n ≡ true → IsLook looks n
@@ -97,17 +75,11 @@ early_is_final looks most text f judged whole early spells =
 
 -- a property of all bytes read is one of the source's bytes, if the source ended
 pub at_end : (old mid new : Option (List ℕ)) (read buffer : List ℕ) (n : ℕ) (P : List ℕ → Type 0) → Consumes old mid read → Consumes mid new (take n buffer) → n ≡ 0 → IsAtEnd new → P read → IfSome old P
-at_end None mid new read buffer n P before last none end p = tt
-at_end (Some text) None new read buffer n P before last none end p = absurd before
-at_end (Some text) (Some rest) None read buffer n P before last none end p = absurd last
-at_end (Some text) (Some rest) (Some left) read buffer n P before last none end p = grind (arith, append-nil read)
+at_end old mid new read buffer n P before last none end p = grind (arith, append-nil read)
 
 -- a property of all continuations of the bytes read is one of the source's bytes
 pub going_on : (old mid new : Option (List ℕ)) (read piece : List ℕ) (P : List ℕ → Type 0) → Consumes old mid read → Consumes mid new piece → ((more : List ℕ) → P ((read ++ piece) ++ more)) → IfSome old P
-going_on None mid new read piece P before last p = tt
-going_on (Some text) None new read piece P before last p = absurd before
-going_on (Some text) (Some rest) None read piece P before last p = absurd last
-going_on (Some text) (Some rest) (Some left) read piece P before last p = grind (arith, append_assoc read piece left)
+going_on old mid new read piece P before last p = grind (arith, append_assoc read piece)
 
 -- no checkpoint of the bytes read finds a breach, and one more piece was consumed
 pub piece_judged : (most f : ℕ) (old mid new : Option (List ℕ)) (read piece : List ℕ) (prefix : PushReaderState) → Consumes old mid read → Consumes mid new piece → length piece ≤ max_piece → HasReceived most prefix read
@@ -133,8 +105,5 @@ piece_is piece done line left after whole split = whole ∙ ap (λ xs. done ++ x
 pub stops_in : (most : ℕ) (b piece done part after : List ℕ) (f : ℕ) (rejected : TextRefusal) → piece ≡ done ++ (part ++ after) → HasNoEarlyBreach most (b ++ done) f → IsRefusedAt most (b ++ done) part rejected → (more : List ℕ)
     → ExplainsVerdictError most ((b ++ piece) ++ more) f (Input (read_error.Text rejected))
 stops_in most b piece done part after f rejected whole none stops more =
-    let same : ((b ++ done) ++ part) ++ (after ++ more) ≡ (b ++ piece) ++ more =
-    append_assoc (b ++ done) part (after ++ more) ∙ append_assoc b done (part ++ (after ++ more)) ∙ ap (λ xs. b ++ (done ++ xs)) (sym (append_assoc part after more))
-    ∙ ap (λ xs. b ++ xs) (sym (append_assoc done (part ++ after) more)) ∙ sym (append_assoc b (done ++ (part ++ after)) more) ∙ ap (λ xs. (b ++ xs) ++ more) (sym whole) in
-    subst (λ (text : List ℕ). ExplainsVerdictError most text f (Input (read_error.Text rejected))) same
-    (stops.rejection (after ++ more), λ other r x look. none r (stops.no_more other (after ++ more) r x) look)
+    let same : (b ++ piece) ++ more ≡ ((b ++ done) ++ part) ++ (after ++ more) = rw whole (simp append_assoc) in
+    rw same (stops.rejection (after ++ more), λ other r x look. none r (stops.no_more other (after ++ more) r x) look)

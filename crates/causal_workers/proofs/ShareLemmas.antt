@@ -1,7 +1,7 @@
 -- The shares of the workers, and the earliest breach of all of them.
 use Rattle.std.proofs.Common.{arith, ℕ, List, [], ◌∷◌, ◌++◌, refl, subst, sym}
-use Rattle.std.specs.Prelude.{◌≤◌, Ok, Err, IfOk}
-use Rattle.causal_audit.specs.Parts.{FollowedDeliveries, EarliestOf, part_of}
+use Rattle.std.specs.Prelude.{◌≤◌, Ok, Err}
+use Rattle.causal_audit.specs.Parts.{FollowedDeliveries}
 use Rattle.causal_audit.proofs.Lemmas.Parts.{least_of_both}
 use Rattle.causal_workers.specs.Inside.Shares.{ShareResult, Covers, Follows, IsEarlierOf, IsShare, RunningShare, IsResultOf}
 
@@ -13,10 +13,7 @@ follows_more followed from mid (v ∷ ws) w all one = (all.0, follows_more follo
 -- the earlier of two results
 tells_both : (followed : FollowedDeliveries) (mid to : ℕ) (one other found : ShareResult) → mid ≤ to → IsEarlierOf one other found → IsResultOf followed 0 mid one → IsResultOf followed mid to other → IsResultOf followed 0 to found
 tells_both followed mid to one other (Err refused) up first before after = tt
-tells_both followed mid to one other (Ok least) up first before after =
-    subst (EarliestOf (part_of followed 0 to)) (sym first.4)
-    (least_of_both followed 0 mid to first.0 first.1 (omega arith) up
-    (subst (λ x. IfOk x (EarliestOf (part_of followed 0 mid))) first.2 before) (subst (λ x. IfOk x (EarliestOf (part_of followed mid to))) first.3 after))
+tells_both followed mid to one other (Ok least) up first before after = rw first.4 (least_of_both followed 0 mid to first.0 first.1 (omega arith) up (rw first.2 at before) (rw first.3 at after))
 
 -- with the next worker's result
 pub covers_next : (followed : FollowedDeliveries) (first : ShareResult) (w : RunningShare) (ws : List RunningShare) (to : ℕ) (answer found : ShareResult) → IsEarlierOf first answer found

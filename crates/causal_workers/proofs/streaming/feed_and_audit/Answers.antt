@@ -1,11 +1,4 @@
-use Rattle.std.proofs.Common.{◌++◌, ◌∙◌, List, [], ℕ, length, refl, sym, ap, subst, append_assoc, append-nil}
-use Rattle.causal_text.specs.PushReaders.{HasReceived}
-use Rattle.std.specs.Prelude.{IfSome, IfNone, Option}
-use Rattle.causal_trace.specs.Judgement.{IsSafeTrace}
-use Rattle.causal_trace.specs.Rows.{Recording}
-use Rattle.causal_text.specs.Prefixes.{SpellsSoFar}
-use Rattle.causal_audit.specs.declared.judged.Judged.{Judged}
-use Rattle.causal_workers.specs.Streaming.{HasNoEarlyBreach, IsBreachSoFar, IsEarlyBreach, IsLook}
+use Rattle.std.proofs.Common.{◌++◌, ◌∙◌, [], length, refl, sym, ap, append_assoc, append-nil}
 use Rattle.causal_workers.proofs.EarlyLemmas.{checkpoint_looked, early_in, looser_breach, none_more, part_read, piece_is, stops_in}
 use Rattle.causal_workers.proofs.streaming.feed_and_audit.Goals as goal
 
@@ -27,11 +20,9 @@ returns-in-Ok-Some-clause-ok g c = λ most b fed none more.
     let whole = piece_is c.args.piece.now i.0 line c.loop-line.left.now c.in-Some.after.now i.1 c.in-Some.ensures.some.1 in
     let next = c.in-Ok.ensures.ok most (b ++ i.0) now.0 in
     let few = c.before-looks_here.result in
-    let told : IfSome c.in-Ok-Some.field-0 (λ judged. (most : ℕ) (b : List ℕ) → HasReceived most c.in-Ok.next b → IsBreachSoFar few most b c.args.f judged) = c.in-Ok-Some.ensures.breach in
-    let found = subst (λ (o : Option Judged). IfSome o (λ judged. (most : ℕ) (b : List ℕ) → HasReceived most c.in-Ok.next b → IsBreachSoFar few most b c.args.f judged)) c.in-Ok-Some.field-0-is told in
+    let found = rw c.in-Ok-Some.field-0-is at c.in-Ok-Some.ensures.breach in
     let breach = looser_breach few c.args.looks most ((b ++ i.0) ++ line) c.args.f c.in-Ok-Some.judged c.before-looks_here.ensures (found most ((b ++ i.0) ++ line) next) in
-    subst (λ (piece : List ℕ). IsEarlyBreach c.args.looks most ((b ++ piece) ++ more) c.args.f c.in-Ok-Some.judged) (sym whole)
-    (early_in c.args.looks most b i.0 line c.in-Some.after.now more c.args.f c.in-Ok-Some.judged now.1 c.in-Some.ensures.some.0 breach)
+    rw whole (early_in c.args.looks most b i.0 line c.in-Some.after.now more c.args.f c.in-Ok-Some.judged now.1 c.in-Some.ensures.some.0 breach)
 
 pub loop-line-preserved : goal.loop-line-preserved
 loop-line-preserved g c =
@@ -42,9 +33,9 @@ loop-line-preserved g c =
       λ most b fed none.
           let now = i.2 most b fed none in
           let next = c.in-Ok.ensures.ok most (b ++ i.0) now.0 in
-          let none_here = subst (λ (o : Option Judged). IfNone o ((most : ℕ) (b : List ℕ) (r : Recording) → HasReceived most c.in-Ok.next b → SpellsSoFar most b r → IsLook c.before-looks_here.result (length r.past) → IsSafeTrace r c.args.f)) c.in-Ok-None.field-0-is c.in-Ok-None.ensures.none in
+          let none_here = rw c.in-Ok-None.field-0-is at c.in-Ok-None.ensures.none in
           let more = none_more most (b ++ i.0) line c.args.f now.1 (λ r x. c.in-Ok.ensures.new_prefixes most (b ++ i.0) r now.0 x) (λ r says look. none_here most ((b ++ i.0) ++ line) r next says (checkpoint_looked c.before-looks_here.result (length r.past) look)) in
-          subst (λ (bytes : List ℕ). HasReceived most c.in-Ok.next bytes × HasNoEarlyBreach most bytes c.args.f) (append_assoc b i.0 line) (next, more),
+          rw (← append_assoc b i.0 line) (next, more),
     )
 
 pub returns-in-Ok-push_part-clause-ok : goal.returns-in-Ok-push_part-clause-ok

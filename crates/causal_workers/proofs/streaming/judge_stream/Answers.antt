@@ -1,23 +1,19 @@
-use Rattle.std.proofs.Common.{◌++◌, ◌∙◌, [], take, length-append, subst, Result, Ok, Err, IfErr, arith}
+use Rattle.std.proofs.Common.{◌++◌, ◌∙◌, [], take, length-append, subst, arith}
 use Rattle.std.proofs.KnownBytes.{Consumes-nil, Consumes-trans}
 use Rattle.std.proofs.lemmas.List.{length-take-le}
+use Rattle.std.proofs.lemmas.Result.{IfErr-weaker}
 use Rattle.causal_workers.specs.Streaming.{IsStreamVerdict, ExplainsVerdictError}
-use Rattle.causal_workers.specs.declared.looks.Looks.{Looks}
 use Rattle.causal_workers.specs.declared.streaming.StreamVerdict.TheVariants.{Early}
 use Rattle.causal_workers.specs.Inside.PieceOutcomes.{IsPieceOutcome}
 use Rattle.causal_workers.specs.declared.streaming.PieceOutcome.{PieceOutcome}
 use Rattle.causal_workers.proofs.EarlyLemmas.{at_end, going_on, piece_judged, failure_judged}
 use Rattle.causal_workers.proofs.streaming.judge_stream.Goals as goal
 
-if_err : {A E : Type 0} (r : Result A E) (P Q : E → Type 0) → ((e : E) → P e → Q e) → IfErr r P → IfErr r Q
-if_err (Ok x) P Q weaker h = tt
-if_err (Err e) P Q weaker h = weaker e h
-
 pub loop-i-init : goal.loop-i-init
 loop-i-init g c = ([], Consumes-nil _, c.within-prefix.ensures.read, λ r x look. absurd (c.within-prefix.ensures.none c.args.limits.entries r x), omega arith, c.start-timer.ensures)
 
 pub returns-then-n-eq0-clause-err : goal.returns-then-n-eq0-clause-err
-returns-then-n-eq0-clause-err g c = grind (arith, if_err, at_end)
+returns-then-n-eq0-clause-err g c = grind (arith, IfErr-weaker, at_end)
 
 pub returns-in-Ok-Breach-clause-ok : goal.returns-in-Ok-Breach-clause-ok
 returns-in-Ok-Breach-clause-ok g c =
@@ -25,8 +21,7 @@ returns-in-Ok-Breach-clause-ok g c =
     let piece = take c.in-Ok.n c.read.new.buf in
     going_on (g.I.Read.remaining c.args.source.now) (g.I.Read.remaining c.loop-i.source) (g.I.Read.remaining c.read.new.self) i.0 piece (λ text. IsStreamVerdict c.args.looks c.args.limits.entries text c.args.f (Early c.in-Ok-Breach.judged))
     i.1 c.in-Ok.ensures.bytes.0
-    (subst (λ (heard : PieceOutcome). IsPieceOutcome c.args.looks c.args.limits.entries i.0 piece c.args.f heard) c.in-Ok-Breach.field-0-is
-    (subst (λ (looks : Looks). IsPieceOutcome looks c.args.limits.entries i.0 piece c.args.f c.in-Ok-Breach.field-0) i.5 (c.in-Ok-Breach.ensures.ok c.args.limits.entries i.0 i.2 i.3)))
+    (rw (i.5, c.in-Ok-Breach.field-0-is) at c.in-Ok-Breach.ensures.ok c.args.limits.entries i.0 i.2 i.3)
 
 pub returns-in-Err-clause-err : goal.returns-in-Err-clause-err
 returns-in-Err-clause-err g c =
