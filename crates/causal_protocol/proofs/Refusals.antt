@@ -32,10 +32,6 @@ use Rattle.causal_protocol.proofs.Facts.{single_slots}
 pub first_none : (x : Option CoreFault) (rest : List (Option CoreFault)) → first_fault_in (x ∷ rest) ≡ None → (x ≡ None) × (first_fault_in rest ≡ None)
 first_none x rest h = grind arith
 
--- a row that gives no fault does not hold
-pub when_none : (b : Bool) (fault : CoreFault) → fault_if b fault ≡ None → b ≡ false
-when_none b fault h = grind arith
-
 -- an option that is not `None` has a value
 pub is_there : {X : Type 0} (o : Option X) → is_none o ≡ false → (x : X) × (o ≡ Some x)
 is_there o h = grind arith

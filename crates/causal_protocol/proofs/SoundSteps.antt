@@ -34,10 +34,6 @@ use Rattle.causal_protocol.proofs.Sets.{survives_log, survives_stable, survives_
 use Rattle.causal_protocol.proofs.Facts.{message_of_parcel, parcel_of_message, keeps_within, invariant, found_up, senders_have_carried}
 use Rattle.causal_protocol.proofs.Lemmas.LogMembers.{none_holds, none_stable, none_entry, entry_of_holder}
 
--- a legal step to memories that match its entry leads to a sound state
-next_sound : (n f : ℕ) (e : Entry) (past : List Entry) (ms next : Memories) → IsInvariantState n f past ms → IsStep n f past (volatile_of ms) (e ∷ past) (volatile_of next) → MemoriesMatchEntries n (e ∷ past) next → IsInvariantState n f (e ∷ past) next
-next_sound n f e past ms next s step fit = record { fit = fit; reached = next_state past (e ∷ past) (volatile_of ms) (volatile_of next) s.reached step }
-
 -- if all messages in memories were there before, nothing new is in transit
 none_new : (ms next : Memories) → ((p ssn : ℕ) (k : SentMessage) → slice_get (messages next p) ssn ≡ Some k → slice_get (messages ms p) ssn ≡ Some k) → (t : TransitParcel) → IsInTransit (volatile_of next) t → IsInTransit (volatile_of ms) t
 none_new ms next old t there =
@@ -58,12 +54,15 @@ quiet_sound : (n f : ℕ) (e : Entry) (past : List Entry) (ms : Memories) (w : �
     → ((p ssn : ℕ) (k : SentMessage) → slice_get (messages (slice_set ms w x) p) ssn ≡ Some k → slice_get (messages ms p) ssn ≡ Some k)
     → ((p : ℕ) (d : Det) → p < n → memory_logs (slice_set ms w x) p d ≡ logs (e ∷ past) p d) → IsInvariantState n f (e ∷ past) (slice_set ms w x)
 quiet_sound n f e past ms w x s step state kept logged =
-    next_sound n f e past ms (slice_set ms w x) s step (record {
-      count = length-set ms w x ∙ s.fit.count;
-      state = state;
-      placed = λ p ssn k h. message_older e past k.send _ (s.fit.placed p ssn k (kept p ssn k h));
-      logged = logged;
-    })
+    record {
+      fit = record {
+        count = length-set ms w x ∙ s.fit.count;
+        state = state;
+        placed = λ p ssn k h. message_older e past k.send _ (s.fit.placed p ssn k (kept p ssn k h));
+        logged = logged;
+      };
+      reached = next_state past (e ∷ past) (volatile_of ms) (volatile_of (slice_set ms w x)) s.reached step;
+    }
 
 is_up : (n : ℕ) (past : List Entry) (ms : Memories) (p : ℕ) (m : Memory) → MemoriesMatchEntries n past ms → p < n → present_at ms p ≡ Some m → is_down past p ≡ false
 is_up n past ms p m fit low here = sym (fit.state p low) ∙ ap is_none here
@@ -85,12 +84,6 @@ module _ (n f : ℕ) (past : List Entry) (ms : Memories) (from to : Pid) (m : Me
   there : log_at ms from.0 ≡ m.log
   there = log_here ms from.0 m here
 
-  sent_kept : (p ssn : ℕ) (k : SentMessage) → slice_get (messages sent_memories p) ssn ≡ Some k → (slice_get (messages ms p) ssn ≡ Some k) ⊎ ((from.0 ≡ p) × (ssn ≡ length m.sent) × (k ≡ new_message))
-  sent_kept p ssn k h = grind (arith, changed_cases sent_to ms from.0 m here p, kept_more)
-
-  sent_log : (p : ℕ) → log_at sent_memories p ≡ log_at ms p
-  sent_log p = elim (changed_cases sent_to ms from.0 m here p) [ inl is ↦ is.2 ∙ sym is.4 | inr other ↦ other.1 ]
-
   sender_logs : (d : Det) → has_item d (batch_items f m.log) ≡ true → logs past from.0 d ≡ true
   sender_logs d h = sym (s.fit.logged from.0 d low) ∙ ap (has_entry d) there ∙ Choices.chosen_logged f m.log d h
 
@@ -101,7 +94,7 @@ module _ (n f : ℕ) (past : List Entry) (ms : Memories) (from to : Pid) (m : Me
   one_new : (t : TransitParcel) → IsInTransit (volatile_of sent_memories) t → IsInTransit (volatile_of ms) t ⊎ (t ≡ parcel_of from.0 new_message)
   one_new t in_transit =
       let found = message_of_parcel sent_memories t in_transit in
-      grind (arith, found.4, sent_kept found.0 found.1 found.2 found.3, parcel_of_message ms found.0 found.1 found.2)
+      grind (arith, found.3, found.4, changed_cases sent_to ms from.0 m here found.0, kept_more, parcel_of_message ms found.0 found.1 found.2)
 
   is_sent : IsSendStep n f past from.0 (volatile_of ms) (volatile_of sent_memories) (parcel_of from.0 new_message)
   is_sent = record {
@@ -120,7 +113,7 @@ module _ (n f : ℕ) (past : List Entry) (ms : Memories) (from to : Pid) (m : Me
       | inr (inl mark) ↦ inr (inl (ap (log_knows_stable d) there ∙ mark))
       | inr (inr many) ↦ inr (inr (subst (λ x. f < x) (len_counted n (known_of (log_at ms from.0) d).holders (λ q known. ((invariant n f past ms s).known_logged from.0 d q low known).0)) (subst (λ log. f < set.len (known_of log d).holders) (sym there) many)))
     ];
-    same_knowledge = record { holders = λ p d q. ap (log_knows_holder d q) (sent_log p); stable = λ p d h. ap (log_knows_stable d) (sym (sent_log p)) ∙ h };
+    same_knowledge = record { holders = λ p d q. grind (arith, changed_cases sent_to ms from.0 m here p); stable = λ p d h. grind (arith, changed_cases sent_to ms from.0 m here p) };
     one_new = one_new;
   }
 
@@ -128,13 +121,13 @@ module _ (n f : ℕ) (past : List Entry) (ms : Memories) (from to : Pid) (m : Me
   sent_fits = record {
     count = length-set ms from.0 (option_map sent_to (present_at ms from.0)) ∙ s.fit.count;
     state = λ p small. changed_state sent_to ms from.0 m here p ∙ s.fit.state p small;
-    placed = λ p ssn k h. grind (arith, sent_kept p ssn k h, message_older sent_entry past k.send, s.fit.placed p ssn k, message_newest sent_entry past k.send);
-    logged = λ p d small. ap (has_entry d) (sent_log p) ∙ s.fit.logged p d small;
+    placed = λ p ssn k h. grind (arith, changed_cases sent_to ms from.0 m here p, kept_more, message_older sent_entry past k.send, s.fit.placed p ssn k, message_newest sent_entry past k.send);
+    logged = λ p d small. grind (arith, changed_cases sent_to ms from.0 m here p, s.fit.logged p d small);
   }
 
   -- the state after a send is sound
   pub send_sound : IsInvariantState n f (Send from to (length m.sent) ∷ past) (update_at (with_sent f to (length past)) ms from.0)
-  send_sound = next_sound n f sent_entry past ms sent_memories s (sends from to (length m.sent) (parcel_of from.0 new_message) is_sent) sent_fits
+  send_sound = record { fit = sent_fits; reached = next_state past (sent_entry ∷ past) (volatile_of ms) (volatile_of sent_memories) s.reached (sends from to (length m.sent) (parcel_of from.0 new_message) is_sent) }
 
 -- a delivery
 module _ (n f : ℕ) (past : List Entry) (ms : Memories) (to : Pid) (rsn : ℕ) (asked : MsgName) (m : Memory) (k : SentMessage) (listed : List Det) (here : present_at ms to.0 ≡ Some m) (low : to.0 < n) (source : asked.source.0 < n)
@@ -160,14 +153,6 @@ module _ (n f : ℕ) (past : List Entry) (ms : Memories) (to : Pid) (rsn : ℕ) 
   received_kept : (p ssn : ℕ) (x : SentMessage) → slice_get (messages received_memories p) ssn ≡ Some x → slice_get (messages ms p) ssn ≡ Some x
   received_kept p ssn x h = grind (arith, changed_cases receiving ms to.0 m here p)
 
-  has_as : (p : ℕ) (d : Det) → memory_logs received_memories p d ≡ ((to.0 == p && list_has listed d) || memory_logs ms p d)
-  has_as p d = grind (arith, changed_cases receiving ms to.0 m here p, LearnedLogs.gained_entry k.batch own m.log d, lists d)
-
-  new_holders : (p : ℕ) (d : Det) (q : ℕ) → knows_holder received_memories p d q ≡ true
-      → (knows_holder ms p d q ≡ true) ⊎ ((to.0 ≡ p) × (list_has listed d ≡ true) × (((item_holder d q k.batch || (has_item d k.batch && q == asked.source.0)) ≡ true) ⊎ (q ≡ to.0)))
-  new_holders p d q h =
-      grind (arith, changed_cases receiving ms to.0 m here p, LearnedLogs.gained_holder k.batch own m.log d q, LearnedLogs.item_of_holder d q k.batch, lists d, same_itself d, eq-eqb q asked.source.0)
-
   is_delivered : IsDeliverStep n past to k.send rsn listed (volatile_of ms) (volatile_of received_memories)
   is_delivered = record {
     process = low;
@@ -179,7 +164,8 @@ module _ (n f : ℕ) (past : List Entry) (ms : Memories) (to : Pid) (rsn : ℕ) 
     position = refl;
     only = λ d has_d. only d (found_up n f past ms s to.0 d (is_up n past ms to.0 m s.fit low here) has_d);
     lists = lists;
-    new_holders = new_holders;
+    new_holders = λ p d q h.
+        grind (arith, changed_cases receiving ms to.0 m here p, LearnedLogs.gained_holder k.batch own m.log d q, LearnedLogs.item_of_holder d q k.batch, lists d, same_itself d, eq-eqb q asked.source.0);
     knows_itself = λ d h. grind (arith, changed_cases, LearnedLogs.gained_new, both_ways, eq-eqb to.0 to.0 refl);
     keeps_holders = λ p d q h. grind (arith, changed_cases receiving ms to.0 m here p, LearnedLogs.gained_old);
     new_stable = λ p d h. grind (arith, changed_cases receiving ms to.0 m here p, LearnedLogs.gained_mark);
@@ -191,7 +177,7 @@ module _ (n f : ℕ) (past : List Entry) (ms : Memories) (to : Pid) (rsn : ℕ) 
   delivery_sound =
       quiet_sound n f delivery past ms to.0 (option_map receiving (present_at ms to.0)) s (delivers to k.send rsn listed is_delivered)
       (λ p small. changed_state receiving ms to.0 m here p ∙ s.fit.state p small) received_kept
-      (λ p d small. has_as p d ∙ ap (λ b. (to.0 == p && list_has listed d) || b) (s.fit.logged p d small))
+      (λ p d small. grind (arith, changed_cases receiving ms to.0 m here p, LearnedLogs.gained_entry k.batch own m.log d, lists d, s.fit.logged p d small))
 
 -- a change of one log that leaves the messages and the set of up processes unchanged
 module _ (n f : ℕ) (past : List Entry) (ms : Memories) (w : ℕ) (m : Memory) (g : LogMap → LogMap) (here : present_at ms w ≡ Some m) (s : IsInvariantState n f past ms) where
@@ -209,9 +195,6 @@ module _ (n f : ℕ) (past : List Entry) (ms : Memories) (p : Pid) (m : Memory) 
   abbrev written_memories : Memories
   written_memories = update_at (with_log marking) ms p.0
 
-  marked_as : (x : ℕ) (d : Det) → memory_logs written_memories x d ≡ memory_logs ms x d
-  marked_as x d = grind (arith, changed_cases (with_log marking) ms p.0 m here x, Choices.marked_entry m.log det d)
-
   is_stable_entry : IsStableStep n past det (volatile_of ms) (volatile_of written_memories)
   is_stable_entry = record {
     survived = inr (inl (p.0, low, sym (s.fit.logged p.0 det low) ∙ logged));
@@ -224,7 +207,7 @@ module _ (n f : ℕ) (past : List Entry) (ms : Memories) (p : Pid) (m : Memory) 
   pub stable_sound : IsInvariantState n f (Stable det ∷ past) (update_at (with_log (λ log. after_mark log det)) ms p.0)
   stable_sound =
       quiet_sound n f (Stable det) past ms p.0 (option_map (with_log marking) (present_at ms p.0)) s (writes det is_stable_entry)
-      (log_state n f past ms p.0 m marking here s) (log_kept n f past ms p.0 m marking here s) (λ x d small. marked_as x d ∙ s.fit.logged x d small)
+      (log_state n f past ms p.0 m marking here s) (log_kept n f past ms p.0 m marking here s) (λ x d small. grind (arith, changed_cases (with_log marking) ms p.0 m here x, Choices.marked_entry m.log det d, s.fit.logged x d small))
 
 -- a forgetting
 module _ (n f : ℕ) (past : List Entry) (ms : Memories) (p : Pid) (m : Memory) (listed : List Det) (here : present_at ms p.0 ≡ Some m) (low : p.0 < n) (known : (d : Det) → list_has listed d ≡ true → knows_stable ms p.0 d ≡ true) (s : IsInvariantState n f past ms) where
@@ -283,16 +266,13 @@ module _ (n f : ℕ) (past : List Entry) (ms : Memories) (who : Pid) (s : IsInva
   under : (r : ℕ) → r < length ms → r < n
   under r h = omega (arith, h, s.fit.count)
 
-  logged_past : (r : ℕ) (d : Det) → r < length ms → memory_logs ms r d ≡ true → logs past r d ≡ true
-  logged_past r d small h = sym (s.fit.logged r d (under r small)) ∙ h
-
   -- a restart gathers exactly what survives
   pub gathered_survivors : (d : Det) → has_entry d (restart_log ms (stable_set past) who) ≡ survives n past d
   gathered_survivors d =
       let found = LearnedLogs.gathered_found ms (stable_set past) who d in
       let stored = LearnedLogs.gathered_stored ms (stable_set past) who d in
       let held = LearnedLogs.gathered_logged ms (stable_set past) who d in
-      grind (arith, found, stored, held, survives_stable n past d, Choices.stable_has past d, survives_log n past, under, survives_found n past d, logged_past, s.fit.logged)
+      grind (arith, found, stored, held, survives_stable n past d, Choices.stable_has past d, survives_log n past, under, survives_found n past d, s.fit.logged)
 
 -- a restart
 module _ (n f : ℕ) (past : List Entry) (ms : Memories) (who : Pid) (listed : List Det) (low : who.0 < n) (down : present_at ms who.0 ≡ None) (lists : (d : Det) → list_has listed d ≡ has_entry d (restart_log ms (stable_set past) who)) (s : IsInvariantState n f past ms) where
@@ -314,11 +294,6 @@ module _ (n f : ℕ) (past : List Entry) (ms : Memories) (who : Pid) (listed : L
   restarted_kept : (p ssn : ℕ) (x : SentMessage) → slice_get (messages restarted p) ssn ≡ Some x → slice_get (messages ms p) ssn ≡ Some x
   restarted_kept p ssn x h = grind (arith, set_cases ms who.0 (Some (new_memory gathered)) p bound, bound)
 
-  restarted_as : (p : ℕ) (d : Det) → memory_logs restarted p d ≡ ((who.0 == p && list_has listed d) || memory_logs ms p d)
-  restarted_as p d =
-      let empty = nothing_there (has_entry d) (none_entry d) p in
-      grind (arith, set_cases ms who.0 (Some (new_memory gathered)) p bound, lists d, empty)
-
   -- whoever has sent what carries d logs it, so the restart lists it
   carried_listed : (d : Det) → IsCarried (volatile_of restarted) d → (list_has listed d ≡ true) ⊎ (is_stable past d ≡ true)
   carried_listed d (t, there, has_d) =
@@ -327,14 +302,11 @@ module _ (n f : ℕ) (past : List Entry) (ms : Memories) (who : Pid) (listed : L
       let goes : has_item d found.2.batch ≡ true = ap (λ (x : TransitParcel). x.carries d) (sym found.4) ∙ has_d in
       grind (arith, or_cases, senders_have_carried n f past ms s found.0 found.2 d small (found.1, found.3) goes, lists_survivors d, survives_log n past found.0 d small)
 
-  listed_alive : (d : Det) → list_has listed d ≡ true → Survives n past (volatile_of ms) d
-  listed_alive d h = elim (survives_found n past d (sym (lists_survivors d) ∙ h)) [ inl stable ↦ inl stable | inr held ↦ inr (inl held) ]
-
   is_restarted : IsRestartStep n past who.0 listed (volatile_of ms) (volatile_of restarted)
   is_restarted = record {
     process = low;
     down = sym (s.fit.state who.0 low) ∙ ap is_none down;
-    lists_survivors = listed_alive;
+    lists_survivors = λ d h. elim (survives_found n past d (sym (lists_survivors d) ∙ h)) [ inl stable ↦ inl stable | inr held ↦ inr (inl held) ];
     recovers = λ d lost there. elim there [ inl held ↦ inl (lists_survivors d ∙ survives_log n past held.0 d held.1 held.2) | inr goes ↦ carried_listed d goes ];
     new_holders = λ p d q h.
         let held = LearnedLogs.gathered_holder ms (stable_set past) who d q in
@@ -352,4 +324,4 @@ module _ (n f : ℕ) (past : List Entry) (ms : Memories) (who : Pid) (listed : L
   restart_sound =
       quiet_sound n f (Restart who listed) past ms who.0 (Some (new_memory gathered)) s (restarts who listed is_restarted)
       (λ p small. grind (arith, set_state ms who.0 (Some (new_memory gathered)) p bound, s.fit.state p small)) restarted_kept
-      (λ p d small. restarted_as p d ∙ ap (λ b. (who.0 == p && list_has listed d) || b) (s.fit.logged p d small))
+      (λ p d small. grind (arith, set_cases ms who.0 (Some (new_memory gathered)) p bound, lists d, nothing_there (has_entry d) (none_entry d) p, s.fit.logged p d small))

@@ -174,19 +174,11 @@ module _ (r : Run) (s : SatisfiesInvariant r) where
 none_written : (fault reason : CoreFault) (done all : ℕ) → flush_reason_of fault ≡ Some reason → IsPartialFlush fault done all → done ≡ 0
 none_written fault reason done all is part = grind arith
 
-refused_kept : (r : Run) (request : Request) (fault : CoreFault) (appended : List Entry) → LegalStep r request (Replies.Refused fault) appended → SatisfiesInvariant r
-    → SatisfiesInvariant (extend_run r request appended)
-unfolding LegalStep
-refused_kept r request fault appended h s = grind arith
-
 legal_kept : (r : Run) (request : Request) (reply : Reply) (appended : List Entry) → LegalStep r request reply appended → SatisfiesInvariant r → SatisfiesInvariant (extend_run r request appended)
 unfolding LegalStep
 legal_kept r (Requests.Deliver q source ssn) (Replies.Delivered d) appended h s = delivers r s q source ssn d.first d.det d.sends appended h.0 h.3 h.4
-legal_kept r (Requests.Deliver q source ssn) (Replies.Refused fault) appended h s = nothing_appended r s (Requests.Deliver q source ssn) appended h.1
 legal_kept r (Requests.Crash p) (Replies.Crashed first) appended h s = crashes r s p appended h.0 h.2
-legal_kept r (Requests.Crash p) (Replies.Refused fault) appended h s = nothing_appended r s (Requests.Crash p) appended h.1
 legal_kept r (Requests.Restart p) (Replies.Restarted d) appended h s = restarts_kept r s p d.sends appended h.0 h.3 h.4
-legal_kept r (Requests.Restart p) (Replies.Refused fault) appended h s = nothing_appended r s (Requests.Restart p) appended h.1
 legal_kept r (Requests.Flush p) (Replies.Flushed count) appended h s = flushes r s p (dets_to_flush r p) appended h.0 (λ d x. x) h.2
 legal_kept r (Requests.Flush p) (Replies.FlushRefused f) appended h s = by (flush_reason_of f.fault) refl
   where
@@ -195,7 +187,7 @@ legal_kept r (Requests.Flush p) (Replies.FlushRefused f) appended h s = by (flus
     by (Some fault) is =
         nothing_appended r s (Requests.Flush p) appended (h.2 ∙ ap (λ k. map Stable (take k (dets_to_flush r p))) (none_written f.fault fault f.done (length (dets_to_flush r p)) is h.1))
 legal_kept r (Requests.Forget p) (Replies.Forgotten count) appended h s = forgets r s p appended h.0 h.2
-legal_kept r request (Replies.Refused fault) appended h s = refused_kept r request fault appended h s
+legal_kept r request (Replies.Refused fault) appended h s = grind arith
 legal_kept r request reply appended h s = absurd h
 
 -- each legal step preserves the invariant of runs
