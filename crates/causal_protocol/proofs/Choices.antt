@@ -44,15 +44,11 @@ module _ (f : ℕ) (log : LogMap) (d : Det) where
   pub chosen_left : has_entry d log ≡ true → (has_item d (batch_items f log) ≡ true) ⊎ ((log_knows_stable d log ≡ true) ⊎ (f < set.len (known_of log d).holders))
   chosen_left h = grind (arith, not_from_false, nat_tests, false≢true, chosen_item)
 
-passes_stable : (o : Option Known) → passes (λ k. k.stable) o ≡ (unwrap_or o unknown).stable
-passes_stable o = grind arith
-
 -- membership in the lists of what a log knows to be stable, and of the rest
 pub stable_have : (log : LogMap) (d : Det) → list_has (stable_in log) d ≡ log_knows_stable d log
 stable_have log d =
-    any_kept (λ e. e.0) (λ e. e.1.stable) (same_det d) (λ e. same_det d e.0 && e.1.stable) (λ e. and_comm e.1.stable (same_det d e.0)) (fin.entries log)
-    ∙ any_logged (λ k. k.stable) d log
-    ∙ passes_stable (fin.get log d)
+    let kept = any_kept (λ e. e.0) (λ e. e.1.stable) (same_det d) (λ e. same_det d e.0 && e.1.stable) (λ e. and_comm e.1.stable (same_det d e.0)) (fin.entries log) in
+    grind (arith, kept, any_logged (λ k. k.stable) d log)
 
 -- a flush writes only what the log has
 pub unstable_logged : (log : LogMap) (d : Det) → list_has (unstable_in log) d ≡ true → has_entry d log ≡ true
@@ -60,13 +56,9 @@ unstable_logged log d h =
     let kept = any_kept (λ e. e.0) (λ e. not e.1.stable) (same_det d) (λ e. same_det d e.0 && not e.1.stable) (λ e. and_comm (not e.1.stable) (same_det d e.0)) (fin.entries log) in
     grind (arith, kept, any_logged (λ k. not k.stable) d log)
 
--- a look-up after a mark
-get_mark : (log : LogMap) (det other : Det) (o : Option Known) → fin.get log det ≡ o → (b : Bool) → same_det other det ≡ b → fin.get (mark log det o) other ≡ cond b (option_map as_stable (fin.get log other)) (fin.get log other)
-get_mark log det other o was b is = grind (arith, fin.get-insert dets_total log det, det_ties other det, same_is other det)
-
 module _ (log : LogMap) (det d : Det) where
   marked_get : fin.get (after_mark log det) d ≡ cond (same_det d det) (option_map as_stable (fin.get log d)) (fin.get log d)
-  marked_get = get_mark log det d (fin.get log det) refl (same_det d det) refl
+  marked_get = grind (arith, fin.get-insert dets_total log det, det_ties d det, same_is d det)
 
   -- a mark does not change what the log has
   pub marked_entry : has_entry d (after_mark log det) ≡ has_entry d log

@@ -20,7 +20,7 @@ use Rattle.causal_protocol.specs.Gathering.{restart_log, without_dets}
 use Rattle.causal_protocol.specs.Run.{Run, memories, memories_of, stable_of, memories_after, older_writers}
 use Rattle.causal_protocol.specs.MemoryQueries.{log_at, log_knows_holder, log_knows_stable}
 use Rattle.causal_protocol.specs.Contributions.{ContributesHolder, ContributesMark, HoldersAreContributed, IsContributed, MarksAreContributed, erases_knowledge, run_before, writers_before}
-use Rattle.causal_protocol.proofs.Places.{at_set, log_first, log_here, set_other}
+use Rattle.causal_protocol.proofs.Places.{at_set, log_first, log_here, set_elsewhere}
 use Rattle.causal_protocol.proofs.Lemmas.LogMembers.{none_holds, none_stable}
 use Rattle.causal_protocol.proofs.LearnedLogs
 use Rattle.causal_protocol.proofs.Choices
@@ -38,11 +38,8 @@ steady Given old new nothing same = record { found = λ h. inr (refl, sym same �
 put_here : (ms : Memories) (w : ℕ) (x : Option Memory) → ((present_at (slice_set ms w x) w ≡ None) × (present_at ms w ≡ None)) ⊎ (present_at (slice_set ms w x) w ≡ x)
 put_here ms w x = grind (arith, cases_lt w (length ms), at_set ms w x w, eqb_tells w w, set_past ms w x, slice_get_past ms w)
 
-changed_here : (g : Memory → Memory) (ms : Memories) (w : ℕ) → present_at (update_at g ms w) w ≡ option_map g (present_at ms w)
-changed_here g ms w = grind (arith, put_here ms w (option_map g (present_at ms w)))
-
-set_elsewhere : (ms : Memories) (w : ℕ) (x : Option Memory) (p : ℕ) → (w ≡ p → ⊥) → present_at (slice_set ms w x) p ≡ present_at ms p
-set_elsewhere ms w x p other = ap (option_and_then (λ z. z)) (set_other ms w x p other)
+changed_here : (g : Memory → Memory) (ms : Memories) (w p : ℕ) → w ≡ p → present_at (update_at g ms w) p ≡ option_map g (present_at ms p)
+changed_here g ms w p is = grind (arith, put_here ms w (option_map g (present_at ms w)))
 
 module _ (p : ℕ) (tells : LogMap → Bool) where
   -- the fact in p's log before and after an entry; p is up after it only if it was up before, or the entry ends the
@@ -79,17 +76,11 @@ module _ (p : ℕ) (d : Det) (tells : LogMap → Bool) (Gives : Run → Option P
   abbrev Stepped : Run → Option Pid → Entry → Type 0
   Stepped r by e = Steps p tells (Gives r by e) (erases_knowledge p d e) (memories_of r) (memories_after r.faults by r.recording.past e (memories_of r))
 
-  elsewhere : (g : Memory → Memory) (ms : Memories) (w : ℕ) → (w ≡ p → ⊥) → present_at (update_at g ms w) p ≡ present_at ms p
-  elsewhere g ms w other = set_elsewhere ms w (option_map g (present_at ms w)) p other
-
-  at_it : (g : Memory → Memory) (ms : Memories) (w : ℕ) → w ≡ p → present_at (update_at g ms w) p ≡ option_map g (present_at ms p)
-  at_it g ms w is = subst (λ x. present_at (update_at g ms x) p ≡ option_map g (present_at ms p)) (sym is) (changed_here g ms p)
-
   -- a delivery
   received : (r : Run) (by : Option Pid) (to : Pid) (send rsn : ℕ) (listed : List Det) (x : Option MsgName) → message_at r.recording.past send ≡ x → Stepped r by (Deliver to send rsn listed)
   received r by to send rsn listed None none = grind (arith, keeps)
   received r by to send rsn listed (Some x) sent =
-      grind (arith, sent, eqb_tells to.0 p, changes, at_it, keeps, elsewhere, facts.receiver r by to send rsn listed, facts.delivered r by to send rsn listed x)
+      grind (arith, sent, eqb_tells to.0 p, changes, changed_here, keeps, set_elsewhere, facts.receiver r by to send rsn listed, facts.delivered r by to send rsn listed x)
 
   -- a restart of p
   returned : (r : Run) (by : Option Pid) (who : Pid) (listed : List Det) → (who.0 == p) ≡ true → who.0 ≡ p → Stepped r by (Restart who listed)
@@ -105,18 +96,14 @@ module _ (p : ℕ) (d : Det) (tells : LogMap → Bool) (Gives : Run → Option P
             record { up = grind (arith, both_ways); log = λ _. rw (ended, here) grows }
       ]
 
-  -- p forgets determinants
-  less : (r : Run) (by : Option Pid) (who : Pid) (listed : List Det) (log : LogMap) → (who.0 == p) ≡ true → (b : Bool) → list_has listed d ≡ b → Grows (Gives r by (Forget who listed)) (erases_knowledge p d (Forget who listed)) (tells log) (tells (without_dets listed log))
-  less r by who listed log here b gone = grind (arith, steady)
-
   step : (r : Run) (by : Option Pid) (e : Entry) → Stepped r by e
-  step r by (Send from to ssn) = grind (arith, eqb_tells from.0 p, changes, at_it, steady, keeps, elsewhere, facts.sent)
+  step r by (Send from to ssn) = grind (arith, eqb_tells from.0 p, changes, changed_here, steady, keeps, set_elsewhere, facts.sent)
   step r by (Deliver to send rsn listed) = received r by to send rsn listed (message_at r.recording.past send) refl
   step r None (Stable det) = grind (arith, keeps)
-  step r (Some w) (Stable det) = grind (arith, eqb_tells w.0 p, changes, at_it, keeps, elsewhere, facts.writer r (Some w) det, facts.written r w det)
+  step r (Some w) (Stable det) = grind (arith, eqb_tells w.0 p, changes, changed_here, keeps, set_elsewhere, facts.writer r (Some w) det, facts.written r w det)
   step r by (Crash who) = grind (arith, eqb_tells who.0 p, loses, put_here, keeps, set_elsewhere)
   step r by (Restart who listed) = grind (arith, eqb_tells who.0 p, returned, keeps, set_elsewhere)
-  step r by (Forget who listed) = grind (arith, eqb_tells who.0 p, changes, at_it, less, keeps, elsewhere)
+  step r by (Forget who listed) = grind (arith, eqb_tells who.0 p, changes, changed_here, steady, keeps, set_elsewhere, facts.forgot, facts.left listed)
 
   abbrev run : ℕ → ℕ → List Pid → List Entry → Run
   run n f writers past = record { recording = record { processes = n; past = past }; faults = f; writers = writers }

@@ -3,9 +3,9 @@ use Rattle.std.proofs.Common.{ℕ, ◌≡◌, ◌<◌, inl, inr, true, false, Li
 use Rattle.std.specs.Option.{option_map}
 use Rattle.std.proofs.lemmas.Bool.{or_cases, or_left, or_right, and_from, eq-eqb}
 use Rattle.causal_name.specs.declared.Det.{Det}
-use Rattle.causal_holders.proofs.Lemmas.MemberCounts.{count_below-within}
+use Rattle.causal_holders.proofs.Lemmas.MemberCounts.{count_below-within, any_below-found, any_below-from}
 use Rattle.causal_trace.specs.declared.entry.Entry.{Entry}
-use Rattle.causal_trace.specs.Past.{is_down}
+use Rattle.causal_trace.specs.Past.{is_down, logs, is_stable}
 use Rattle.causal_trace.specs.Judgement.{IsSafeTrace}
 use Rattle.causal_steps.specs.Recovery.{counts_as_holder, IsRecoverable, HasOrRecovers}
 use Rattle.causal_steps.specs.Transit.{TransitParcel, IsInTransit, Survives}
@@ -18,7 +18,23 @@ use Rattle.causal_protocol.specs.MemoryQueries.{messages, parcel_of, volatile_of
 use Rattle.causal_protocol.specs.Invariant.{survives, logs_or_stable, down_or_holding, IsSafeDet, HoldsOrIsDown, FewAreDown, KnownHoldersAreTrue, CarriedHoldersAreTrue, MarksAreTrue, DependentsLog, MessagesCarry, ReceiversHaveSurvivors, SendersHaveCarried, SlotsAreSingle, SurvivorsAreDelivered}
 use Rattle.causal_protocol.specs.Runs.{IsInvariantState}
 use Rattle.causal_protocol.proofs.Places.{at_within}
-use Rattle.causal_protocol.proofs.Sets.{survives_found}
+use Rattle.std.specs.Prelude.{◌⊎◌}
+
+-- what survives is stable or in the log of some process
+pub survives_found : (n : ℕ) (past : List Entry) (d : Det) → survives n past d ≡ true → (is_stable past d ≡ true) ⊎ ((p : ℕ) × (p < n) × (logs past p d ≡ true))
+survives_found n past d h = elim (or_cases _ _ h) [ inl k ↦ inl k | inr k ↦ inr (any_below-found n (λ p. logs past p d) k) ]
+
+-- what a process logs survives
+pub survives_log : (n : ℕ) (past : List Entry) (p : ℕ) (d : Det) → p < n → logs past p d ≡ true → survives n past d ≡ true
+survives_log n past p d below h = or_right _ _ (any_below-from n (λ q. logs past q d) p below h)
+
+-- what is stable survives
+pub survives_stable : (n : ℕ) (past : List Entry) (d : Det) → is_stable past d ≡ true → survives n past d ≡ true
+survives_stable n past d h = or_left _ _ h
+
+-- what a process finds survives
+pub finds_survive : (n : ℕ) (past : List Entry) (p : ℕ) (d : Det) → p < n → logs_or_stable past p d ≡ true → survives n past d ≡ true
+finds_survive n past p d below h = elim (or_cases (logs past p d) (is_stable past d) h) [ inl held ↦ survives_log n past p d below held | inr stable ↦ survives_stable n past d stable ]
 
 -- a parcel in transit is a message in a memory
 pub message_of_parcel : (ms : Memories) (t : TransitParcel) → IsInTransit (volatile_of ms) t → (p ssn : ℕ) × (k : SentMessage) × (slice_get (messages ms p) ssn ≡ Some k) × (t ≡ parcel_of p k)

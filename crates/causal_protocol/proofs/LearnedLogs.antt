@@ -26,10 +26,6 @@ use Rattle.causal_protocol.specs.Contributions.{MessageImpliesHolder}
 use Rattle.causal_protocol.specs.MemoryQueries.{log_at, has_entry, log_knows_holder, log_knows_stable, memory_logs, knows_holder, knows_stable, has_item, item_holder}
 use Rattle.causal_protocol.proofs.Lemmas.LogMembers.{none_holds, none_stable, none_entry, entry_of_holder}
 
--- a determinant that is known to be stable is logged
-pub entry_of_mark : (log : LogMap) (d : Det) → log_knows_stable d log ≡ true → has_entry d log ≡ true
-entry_of_mark log d h = grind (arith, false≢true)
-
 -- an item that names a holder is an item
 pub item_of_holder : (d : Det) (q : ℕ) (items : List Item) → item_holder d q items ≡ true → has_item d items ≡ true
 item_of_holder d q [] h = absurd (false≢true h)
@@ -99,16 +95,13 @@ module _ (tells : LogMap → Bool) (either : (log other : LogMap) → tells (aft
   pub united_first : (ms : Memories) (log : LogMap) → tells log ≡ true → tells (with_logs_of ms log) ≡ true
   unfolding with_logs_of
   united_first [] log h = h
-  united_first (None ∷ ms) log h = united_first ms log h
-  united_first (Some m ∷ ms) log h = united_first ms (after_union log m.log) (either log m.log ∙ or_left _ _ h)
+  united_first (m ∷ ms) log h = grind (arith, united_first ms, either)
 
   pub united_each : (ms : Memories) (log : LogMap) (r : ℕ) → tells (log_at ms r) ≡ true → tells (with_logs_of ms log) ≡ true
   unfolding with_logs_of log_at
   united_each [] log r h = absurd (both_ways _ lacks h)
-  united_each (None ∷ ms) log zero h = absurd (both_ways _ lacks h)
-  united_each (None ∷ ms) log (suc r) h = united_each ms log r h
-  united_each (Some m ∷ ms) log zero h = united_first ms (after_union log m.log) (either log m.log ∙ or_right _ _ h)
-  united_each (Some m ∷ ms) log (suc r) h = united_each ms (after_union log m.log) r h
+  united_each (m ∷ ms) log zero h = grind (arith, both_ways, lacks, united_first ms, either)
+  united_each (m ∷ ms) log (suc r) h = grind (arith, united_each ms)
 
 -- a log in which p is a known holder of these
 held_is : (ds : List Det) (p : Pid) (log : LogMap) → with_held ds p log ≡ after_learn_all (map (λ d. (d, held_by p)) ds) log
@@ -156,7 +149,8 @@ module _ (ms : Memories) (stored : DetSet) (p : Pid) (d : Det) where
   abbrev gathered : LogMap
   gathered = restart_log ms stored p
 
-  gathered_entry : has_entry d gathered ≡ (has_entry d together || store.set_has stored d)
+  -- what the restart's log has: what is stored, and what the log of some process has
+  pub gathered_entry : has_entry d gathered ≡ (has_entry d together || store.set_has stored d)
   gathered_entry =
       let held_entry = each_entry (held_by p) d (fin.keys together) together in
       let all_entry = each_entry (stable_and_held_by p) d (dets_in stored) held in
@@ -169,20 +163,11 @@ module _ (ms : Memories) (stored : DetSet) (p : Pid) (d : Det) where
       let all_known = each_known (stable_and_held_by p) d tells either (dets_in stored) held in
       grind (arith, held_is (fin.keys together) p together, stable_is (dets_in stored) p held, held_known, all_known, keys_have together d, stored_have stored d)
 
-  together_entry : has_entry d together ≡ true → (r : ℕ) × (r < length ms) × (memory_logs ms r d ≡ true)
+  pub together_entry : has_entry d together ≡ true → (r : ℕ) × (r < length ms) × (memory_logs ms r d ≡ true)
   together_entry h = grind (arith, united_found (has_entry d) (λ log other. united_logged log other d) (none_entry d) ms fin.empty h, none_entry d)
 
-  -- what the restart's log has is stored, or an up process logs it
-  pub gathered_found : has_entry d gathered ≡ true → (store.set_has stored d ≡ true) ⊎ ((r : ℕ) × (r < length ms) × (memory_logs ms r d ≡ true))
-  gathered_found h = grind (arith, gathered_entry, together_entry)
-
-  -- what is stored is in the restart's log
-  pub gathered_stored : store.set_has stored d ≡ true → has_entry d gathered ≡ true
-  gathered_stored h = gathered_entry ∙ or_right _ _ h
-
-  -- what an up process logs is in the restart's log
-  pub gathered_logged : (r : ℕ) → memory_logs ms r d ≡ true → has_entry d gathered ≡ true
-  gathered_logged r h = gathered_entry ∙ or_left _ _ (united_each (has_entry d) (λ log other. united_logged log other d) (none_entry d) ms fin.empty r h)
+  pub together_each : (r : ℕ) → memory_logs ms r d ≡ true → has_entry d together ≡ true
+  together_each r h = united_each (has_entry d) (λ log other. united_logged log other d) (none_entry d) ms fin.empty r h
 
   -- a known holder in the restart's log is p itself, or an up process knew it
   pub gathered_holder : (q : ℕ) → log_knows_holder d q gathered ≡ true → (q ≡ p.0) ⊎ ((r : ℕ) × (r < length ms) × (knows_holder ms r d q ≡ true))
@@ -218,4 +203,4 @@ module _ (ms : Memories) (stored : DetSet) (p : Pid) (d : Det) where
 -- known holders and marks after a delivery and after a restart
 pub ruleset told_holders_of = (gained_holder, gained_told, gained_old, gathered_holder, gathered_itself, gathered_known, keys_have, entry_of_holder)
 
-pub ruleset told_marks_of = (gained_mark, gathered_mark, gathered_marks, stored_marks, entry_of_mark)
+pub ruleset told_marks_of = (gained_mark, gathered_mark, gathered_marks, stored_marks)

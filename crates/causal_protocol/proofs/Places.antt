@@ -1,7 +1,7 @@
 -- What a list of memories has after one of them is changed.
 use Rattle.std.proofs.Common.{ℕ, ◌≡◌, ◌<◌, true, false, cond, List, [], ◌∷◌, ◌++◌, length, get_or, replicate, slice_get, slice_set, Option, Some, None, is_none, sym, ap, arith}
 use Rattle.std.specs.Prelude.{◌==◌, ◌⊎◌}
-use Rattle.std.specs.Option.{option_map, option_map_or}
+use Rattle.std.specs.Option.{option_map, option_map_or, option_and_then}
 use Rattle.std.proofs.lemmas.List.{length-set, get_or-set_same, get_or-set_other, get_or_append_left, get_or_push, get_or-replicate, length-replicate, length_push}
 use Rattle.std.proofs.lemmas.Option.{slice_get-get_or, slice_get_cases, slice_get_past}
 use Rattle.std.proofs.lemmas.Bool.{cases_lt}
@@ -16,6 +16,9 @@ pub set_other : {X : Type 0} (xs : List X) (w : ℕ) (x : X) (p : ℕ) → (w �
 set_other xs w x p other =
     let same : get_or (slice_set xs w x) p x ≡ get_or xs p x = get_or-set_other xs w p x x (λ e. other (sym e)) in
     grind (arith, cases_lt p (length xs), slice_get-get_or (slice_set xs w x) p x, slice_get-get_or xs p x, slice_get_past, length-set xs w x)
+
+pub set_elsewhere : {X : Type 0} (xs : List (Option X)) (w : ℕ) (x : Option X) (p : ℕ) → (w ≡ p → ⊥) → present_at (slice_set xs w x) p ≡ present_at xs p
+set_elsewhere xs w x p other = ap (option_and_then (λ z. z)) (set_other xs w x p other)
 
 -- after one element is set, a look-up returns the new one at its index and the old ones elsewhere
 pub at_set : {X : Type 0} (xs : List (Option X)) (w : ℕ) (x : Option X) (p : ℕ) → w < length xs → present_at (slice_set xs w x) p ≡ cond (w == p) x (present_at xs p)

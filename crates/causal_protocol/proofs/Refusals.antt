@@ -25,22 +25,15 @@ use Rattle.causal_protocol.specs.Runs.{IsInvariantState}
 use Rattle.causal_protocol.proofs.Places.{log_here}
 use Rattle.causal_protocol.proofs.LearnedLogs.{keys_have, stored_have}
 use Rattle.causal_protocol.proofs.Choices.{first_passes, first_there, stable_has}
-use Rattle.causal_protocol.proofs.Sets.{finds_survive}
-use Rattle.causal_protocol.proofs.Facts.{single_slots}
+use Rattle.causal_protocol.proofs.Facts.{finds_survive, single_slots}
 
--- if no row gives a fault, neither does the first, nor one of the rest
-pub first_none : (x : Option CoreFault) (rest : List (Option CoreFault)) → first_fault_in (x ∷ rest) ≡ None → (x ≡ None) × (first_fault_in rest ≡ None)
-first_none x rest h = grind arith
+-- if no row gives a fault, neither does the third
+pub third_none : (x y z : Option CoreFault) (rest : List (Option CoreFault)) → first_fault_in (x ∷ y ∷ z ∷ rest) ≡ None → z ≡ None
+third_none x y z rest h = grind arith
 
 -- an option that is not `None` has a value
 pub is_there : {X : Type 0} (o : Option X) → is_none o ≡ false → (x : X) × (o ≡ Some x)
 is_there o h = grind arith
-
-same_message-is : (a b : MsgName) → same_message a b ≡ true → a ≡ b
-same_message-is a b h = grind (arith, and_parts (same_pid a.source b.source) (a.ssn == b.ssn) h, eqb-true)
-
-pub unless_none : (asked m : MsgName) → fault_unless_named asked (Some m) ≡ None → m ≡ asked
-unless_none asked m h = grind (arith, same_message-is)
 
 -- a message sent to a process is in its sender's memory
 pub kept_for-is : (ms : Memories) (q : Pid) (asked : MsgName) (k : SentMessage) → sent_message_for ms q asked ≡ Some k → sent_message_of ms asked ≡ Some k
@@ -54,9 +47,6 @@ kept_message ms asked k h = grind arith
 -- the least determinant of two sources is one of them
 lesser_from : (a b : Option Det) (d : Det) → min_det a b ≡ Some d → (a ≡ Some d) ⊎ (b ≡ Some d)
 lesser_from a b d h = grind arith
-
-lesser_some : (a b : Option Det) → (is_some a ≡ true) ⊎ (is_some b ≡ true) → (d : Det) × (min_det a b ≡ Some d)
-lesser_some a b some = is_there (min_det a b) (grind arith)
 
 slot_is : (q : Pid) (rsn : ℕ) (d : Det) → is_of_slot q rsn d ≡ true → (d.dest ≡ q) × (d.rsn ≡ rsn)
 slot_is q rsn d h = grind (arith, and_parts (same_pid d.dest q) (d.rsn == rsn) h, eqb-true)
@@ -75,7 +65,7 @@ module _ (n f : ℕ) (past : List Entry) (ms : Memories) (q : Pid) (m : Memory) 
       grind (arith, found, first_passes, slot_is, keys_logs d, dets_stable d)
 
   next_some : (d : Det) → logs_or_stable past q.0 d ≡ true → d.dest ≡ q → d.rsn ≡ length m.received → (x : Det) × (next_det (stable_set past) q m ≡ Some x)
-  next_some d found dest place = grind (arith, lesser_some, first_there, keys_logs d, dets_stable d)
+  next_some d found dest place = is_there (next_det (stable_set past) q m) (grind (arith, first_there, keys_logs d, dets_stable d))
 
   -- if no other message is named for the next delivery, what the process finds for it names the requested one
   pub only_named : (asked : MsgName) → fault_unless_named asked (named_for ms (stable_set past) q) ≡ None → (d : Det) → logs_or_stable past q.0 d ≡ true → d.dest ≡ q → d.rsn ≡ length m.received → message_of d ≡ asked
@@ -83,7 +73,7 @@ module _ (n f : ℕ) (past : List Entry) (ms : Memories) (q : Pid) (m : Memory) 
       let some = next_some d found dest place in
       let next = next_found some.0 some.1 in
       let alive = finds_survive n past q.0 some.0 low next.0 in
-      grind (arith, next, alive, some.1, single_slots n f past ms s some.0 d, finds_survive n past q.0 d low found, unless_none asked (message_of some.0))
+      grind (arith, next, alive, some.1, single_slots n f past ms s some.0 d, finds_survive n past q.0 d low found, eqb-true, and_parts)
 
 -- how many processes are down
 count_front : (n : ℕ) (test : ℕ → Bool) → count_below (suc n) test ≡ cond (test 0) 1 0 + count_below n (λ p. test (suc p))
@@ -92,10 +82,7 @@ count_front (suc n) test = omega (arith, count_front n test)
 
 count_list : {X : Type 0} (xs : List (Option X)) → count_by is_none xs ≡ count_below (length xs) (λ p. is_none (present_at xs p))
 count_list [] = refl
-count_list (x ∷ xs) =
-    sum_by-cons (λ o. cond (is_none o) 1 0) x xs
-    ∙ ap (λ c. cond (is_none x) 1 0 + c) (count_list xs)
-    ∙ sym (count_front (length xs) (λ p. is_none (present_at (x ∷ xs) p)))
+count_list (x ∷ xs) = grind (arith, sum_by-cons (λ o. cond (is_none o) 1 0) x xs, count_list xs, count_front (length xs) (λ p. is_none (present_at (x ∷ xs) p)))
 
 -- if exactly the down processes have no memory, as many memories are missing as processes are down
 pub down_counted : (n : ℕ) (past : List Entry) (ms : Memories) → length ms ≡ n → ((p : ℕ) → p < n → is_none (present_at ms p) ≡ is_down past p) → count_by is_none ms ≡ count_below n (is_down past)

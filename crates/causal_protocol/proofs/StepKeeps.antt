@@ -1,8 +1,8 @@
 -- Each legal step preserves the invariant.
-use Rattle.std.proofs.Common.{ℕ, zero, suc, ◌≡◌, ◌+◌, ◌<◌, inl, inr, true, not, ◌&&◌, ◌||◌, nat_lt, List, [], ◌∷◌, ◌++◌, length, map, take, drop, replicate, slice_set, Option, Some, None, is_none, refl, sym, ap, subst, ◌∙◌, arith}
+use Rattle.std.proofs.Common.{ℕ, zero, suc, ◌≡◌, ◌+◌, ◌<◌, inl, inr, true, not, ◌&&◌, ◌||◌, nat_lt, List, [], ◌∷◌, ◌++◌, length, map, take, drop, replicate, slice_set, Option, Some, None, is_none, refl, sym, ap, subst, ◌∙◌, arith, ◌≤◌, slice_get}
 use Rattle.std.specs.List.{filter_map}
 use Rattle.std.specs.Option.{option_map, option_map_or}
-use Rattle.std.proofs.lemmas.List.{length_push}
+use Rattle.std.proofs.lemmas.List.{length_push, length-replicate}
 use Rattle.std.proofs.lemmas.Bool.{false≢true, or_cases, or_left, or_right}
 use Rattle.std.proofs.lemmas.Bool.Decides.{eqb_tells}
 use Rattle.causal_name.specs.declared.Pid.{Pid}
@@ -26,16 +26,18 @@ use Rattle.causal_protocol.specs.Run.{Run, after_receive, memories, memories_of,
 use Rattle.causal_protocol.specs.Naming.{message_name, named_for, sent_message_for, send_of, next_rsn, next_ssn, next_own_det, listed_for}
 use Rattle.causal_protocol.specs.Refusals.{fault_if, fault_unless_named, request_refusals, request_fault, restart_list, dets_to_flush, dets_to_forget}
 use Rattle.causal_protocol.specs.Steps.{append_all, extend_run, receiver_of, sends_of, AreSends, delivery_entry, forget_entries, LegalStep, flush_reason_of, IsPartialFlush}
-use Rattle.causal_protocol.specs.MemoryQueries.{memory_logs, knows_stable, has_item}
+use Rattle.causal_protocol.specs.MemoryQueries.{memory_logs, knows_stable, has_item, has_entry, log_knows_holder, log_knows_stable, parcel_of, volatile_of}
 use Rattle.causal_protocol.specs.Invariant.{logs_or_stable}
-use Rattle.causal_protocol.specs.Runs.{IsInvariantState, SatisfiesInvariant, RequestsPreserveInvariant, RefusalsChangeNothing}
+use Rattle.causal_protocol.specs.Runs.{IsInvariantState, SatisfiesInvariant, RequestsPreserveInvariant, RefusalsChangeNothing, HaveBegunBelow, IsReachable, opened, stepped, StartSatisfiesInvariant}
 use Rattle.causal_protocol.proofs.Facts.{few_down, known_holders_true, carried_holders_true, marks_true, dependents_log, messages_carry, receivers_have_survivors, senders_have_carried}
-use Rattle.causal_protocol.proofs.Places.{at_set, at_within, log_here}
+use Rattle.causal_protocol.proofs.Places.{at_set, at_within, log_here, set_elsewhere, beginners, at_first, log_first, messages_first}
 use Rattle.causal_protocol.proofs.LearnedLogs.{keys_have}
 use Rattle.causal_protocol.proofs.Choices.{unstable_logged, stable_have, marked_entry}
-use Rattle.causal_protocol.proofs.Lemmas.LogMembers.{own_have, items_have}
-use Rattle.causal_protocol.proofs.Refusals.{first_none, is_there, kept_for-is, kept_message, only_named, down_counted}
+use Rattle.causal_protocol.proofs.Lemmas.LogMembers.{own_have, items_have, none_entry, none_holds, none_stable}
+use Rattle.causal_protocol.proofs.Refusals.{third_none, is_there, kept_for-is, kept_message, only_named, down_counted}
 use Rattle.causal_protocol.proofs.SoundSteps.{send_sound, was_sent, delivery_sound, stable_sound, forget_sound, crash_sound, restart_sound}
+use Rattle.std.specs.FinMap as fin
+use Rattle.causal_steps.specs.Reachable.{IsInitial, initial}
 
 -- the invariant of a state, with the memories that the run makes
 abbrev pub IsKept : ℕ → ℕ → List Pid → List Entry → Type 0
@@ -43,9 +45,6 @@ IsKept n f writers past = IsInvariantState n f past (memories n f writers past)
 
 set_here : {X : Type 0} (xs : List (Option X)) (w : ℕ) (x : Option X) → w < length xs → present_at (slice_set xs w x) w ≡ x
 set_here xs w x low = grind (arith, at_set xs w x w, eqb_tells w w)
-
-set_other : {X : Type 0} (xs : List (Option X)) (w : ℕ) (x : Option X) (p : ℕ) → w < length xs → (w ≡ p → ⊥) → present_at (slice_set xs w x) p ≡ present_at xs p
-set_other xs w x p low away = grind (arith, at_set xs w x p, eqb_tells w p)
 
 -- the sends of an up process preserve it, one after the other
 sends_kept : (n f : ℕ) (writers : List Pid) (past : List Entry) (q : Pid) (ssn : ℕ) (tos : List Pid) (m : Memory) → present_at (memories n f writers past) q.0 ≡ Some m → q.0 < n → ssn ≡ length m.sent → IsKept n f writers past
@@ -58,7 +57,7 @@ sends_kept n f writers past q ssn (to ∷ tos) m here low is s =
     let next : IsInvariantState n f (Send q to ssn ∷ past) (update_at (with_sent f to (length past)) ms q.0) = subst (λ x. IsInvariantState n f (Send q to x ∷ past) (update_at (with_sent f to (length past)) ms q.0)) (sym is) (send_sound n f past ms q to m here low s) in
     let there : present_at (update_at (with_sent f to (length past)) ms q.0) q.0 ≡ Some (with_sent f to (length past) m) = set_here ms q.0 (option_map (with_sent f to (length past)) (present_at ms q.0)) bound ∙ ap (option_map (with_sent f to (length past))) here in
     let rest = sends_kept n f writers (Send q to ssn ∷ past) q (ssn + 1) tos (with_sent f to (length past) m) there low (ap (λ x. x + 1) is ∙ sym (length_push m.sent _)) next in
-    (rest.0, λ p away. rest.1 p away ∙ set_other ms q.0 (option_map (with_sent f to (length past)) (present_at ms q.0)) p bound away)
+    (rest.0, λ p away. rest.1 p away ∙ set_elsewhere ms q.0 (option_map (with_sent f to (length past)) (present_at ms q.0)) p away)
 
 -- the sends of a step preserve it
 pub are_sends_kept : (n f : ℕ) (writers : List Pid) (past : List Entry) (q : Pid) (ssn number : ℕ) (entries : List Entry) (m : Memory) → AreSends n q ssn number entries → present_at (memories n f writers past) q.0 ≡ Some m → q.0 < n → ssn ≡ length m.sent → IsKept n f writers past
@@ -88,7 +87,7 @@ flush_kept n f writers past p (d ∷ ds) m here low logged s =
 has_taken : (k : ℕ) (ds : List Det) (d : Det) → list_has (take k ds) d ≡ true → list_has ds d ≡ true
 has_taken zero ds d h = absurd (false≢true h)
 has_taken (suc k) [] d h = absurd (false≢true h)
-has_taken (suc k) (x ∷ ds) d h = elim (or_cases (same_det d x) (list_has (take k ds) d) h) [ inl is ↦ or_left _ _ is | inr more ↦ or_right _ _ (has_taken k ds d more) ]
+has_taken (suc k) (x ∷ ds) d h = grind (arith, has_taken k ds d)
 
 module _ (r : Run) (s : SatisfiesInvariant r) where
   abbrev n : ℕ
@@ -107,10 +106,8 @@ module _ (r : Run) (s : SatisfiesInvariant r) where
       let up = is_there (present_at ms q.0) (grind arith) in
       let kept = is_there (sent_message_for ms q (message_name source ssn)) (grind arith) in
       let by = kept_for-is ms q (message_name source ssn) kept.0 kept.1 in
-      let row1 = first_none (fault_if (not (nat_lt q.0 n && nat_lt source.0 n)) Faults.NoProcess) _ none in
-      let row2 = first_none (fault_if (is_none (present_at ms q.0)) Faults.Down) _ row1.1 in
-      let row3 = first_none (fault_unless_named (message_name source ssn) (named_for ms (stable_of r) q)) _ row2.1 in
-      subst (λ es. IsKept n r.faults r.writers (append_all es past)) (sym is) (then_sends up.0 kept.0 low.0 low.1 up.1 by row3.0)
+      let only = third_none (fault_if (not (nat_lt q.0 n && nat_lt source.0 n)) Faults.NoProcess) (fault_if (is_none (present_at ms q.0)) Faults.Down) (fault_unless_named (message_name source ssn) (named_for ms (stable_of r) q)) _ none in
+      subst (λ es. IsKept n r.faults r.writers (append_all es past)) (sym is) (then_sends up.0 kept.0 low.0 low.1 up.1 by only)
     where
       then_sends : (m : Memory) (k : SentMessage) → q.0 < n → source.0 < n → present_at ms q.0 ≡ Some m → sent_message_of ms (message_name source ssn) ≡ Some k → fault_unless_named (message_name source ssn) (named_for ms (stable_of r) q) ≡ None → IsKept n r.faults r.writers (append_all (drop 1 appended) (delivery_entry r q (message_name source ssn) ∷ past))
       then_sends m k low from here by only =
@@ -122,14 +119,10 @@ module _ (r : Run) (s : SatisfiesInvariant r) where
           grind (arith, own_have (next_own_det ms q asked) (dets_of (batch_of ms asked)) d, items_have (batch_of ms asked) d) in
           let sound = delivery_sound n r.faults past ms q (next_rsn ms q) asked m k (listed_for ms q asked) here low from found named lists s in
           let sent = was_sent n r.faults past ms q (next_rsn ms q) asked m k (listed_for ms q asked) here low from found named lists s in
-          let given : after_receive ms q (next_rsn ms q) (message_at past (send_of ms asked)) ≡ update_at (with_received k.batch (next_own_det ms q asked)) ms q.0 =
-          grind (arith, sent) in
-          let next : IsKept n r.faults r.writers (delivery_entry r q asked ∷ past) =
-          subst (λ x. IsInvariantState n r.faults (delivery_entry r q asked ∷ past) x) (sym given)
-          (subst (λ x. IsInvariantState n r.faults (Deliver q x (next_rsn ms q) (listed_for ms q asked) ∷ past) (update_at (with_received k.batch (next_own_det ms q asked)) ms q.0)) (ap (λ o. option_map_or (λ k. k.send) o 0) (sym by)) sound) in
+          let next : IsKept n r.faults r.writers (delivery_entry r q asked ∷ past) = grind (arith, sent, sound) in
           let bound : q.0 < length ms = at_within ms q.0 m here in
           let there : present_at (memories n r.faults r.writers (delivery_entry r q asked ∷ past)) q.0 ≡ Some (with_received k.batch (next_own_det ms q asked) m) =
-          grind (arith, given, set_here ms q.0 (option_map (with_received k.batch (next_own_det ms q asked)) (present_at ms q.0)) bound) in
+          grind (arith, sent, set_here ms q.0 (option_map (with_received k.batch (next_own_det ms q asked)) (present_at ms q.0)) bound) in
           (are_sends_kept n r.faults r.writers (delivery_entry r q asked ∷ past) q (next_ssn ms q) number (drop 1 appended) (with_received k.batch (next_own_det ms q asked) m) sends there low (ap (λ o. option_map_or (λ m. length m.sent) o 0) here) next).0
 
   crashes : (p : Pid) (appended : List Entry) → request_fault r (Requests.Crash p) ≡ None → appended ≡ Crash p ∷ [] → SatisfiesInvariant (extend_run r (Requests.Crash p) appended)
@@ -165,14 +158,10 @@ module _ (r : Run) (s : SatisfiesInvariant r) where
       subst (λ es. IsKept n r.faults r.writers (append_all es past)) (sym is) (by_list (dets_to_forget r p) low up.0 up.1 known)
     where
       by_list : (ds : List Det) → p.0 < n → (m : Memory) → present_at ms p.0 ≡ Some m → ((d : Det) → list_has ds d ≡ true → knows_stable ms p.0 d ≡ true) → IsKept n r.faults r.writers (append_all (forget_entries p ds) past)
-      by_list [] low m here known = s
-      by_list (d ∷ ds) low m here known = forget_sound n r.faults past ms p m (d ∷ ds) here low known s
+      by_list ds low m here known = grind (arith, forget_sound n r.faults past ms p m ds here low known s)
 
   nothing_appended : (request : Request) (appended : List Entry) → appended ≡ [] → SatisfiesInvariant (extend_run r request appended)
   nothing_appended request appended is = grind arith
-
-none_written : (fault reason : CoreFault) (done all : ℕ) → flush_reason_of fault ≡ Some reason → IsPartialFlush fault done all → done ≡ 0
-none_written fault reason done all is part = grind arith
 
 legal_kept : (r : Run) (request : Request) (reply : Reply) (appended : List Entry) → LegalStep r request reply appended → SatisfiesInvariant r → SatisfiesInvariant (extend_run r request appended)
 unfolding LegalStep
@@ -184,8 +173,7 @@ legal_kept r (Requests.Flush p) (Replies.FlushRefused f) appended h s = by (flus
   where
     by : (reason : Option CoreFault) → flush_reason_of f.fault ≡ reason → SatisfiesInvariant (extend_run r (Requests.Flush p) appended)
     by None is = flushes r s p (take f.done (dets_to_flush r p)) appended (h.0 ∙ is) (has_taken f.done (dets_to_flush r p)) h.2
-    by (Some fault) is =
-        nothing_appended r s (Requests.Flush p) appended (h.2 ∙ ap (λ k. map Stable (take k (dets_to_flush r p))) (none_written f.fault fault f.done (length (dets_to_flush r p)) is h.1))
+    by (Some fault) is = nothing_appended r s (Requests.Flush p) appended (grind arith)
 legal_kept r (Requests.Forget p) (Replies.Forgotten count) appended h s = forgets r s p appended h.0 h.2
 legal_kept r request (Replies.Refused fault) appended h s = grind arith
 legal_kept r request reply appended h s = absurd h
@@ -201,3 +189,41 @@ refusals_change_nothing old new request fault step = grind arith
 
 -- so the eight facts of the invariant hold after each legal step
 pub ruleset facts_after = (steps_keep_runs, few_down, known_holders_true, carried_holders_true, marks_true, dependents_log, messages_carry, receivers_have_survivors, senders_have_carried)
+
+-- nothing is known when all processes begin, and no message was sent
+begins_with_nothing : (n : ℕ) → IsInitial (volatile_of (beginners n))
+begins_with_nothing n = record {
+  no_holders = λ p d q. ap (log_knows_holder d q) (log_first n p) ∙ none_holds d q;
+  no_stable = λ p d. ap (log_knows_stable d) (log_first n p) ∙ none_stable d;
+  no_parcels = λ p ssn. ap (λ xs. option_map (parcel_of p) (slice_get xs ssn)) (messages_first n p);
+}
+
+first_sound : (n f : ℕ) → IsInvariantState n f [] (beginners n)
+first_sound n f = record {
+  fit = record {
+    count = length-replicate n (Some (new_memory fin.empty));
+    state = λ p small. ap is_none (at_first n p small);
+    placed = λ p ssn k h. absurd (let e : None ≡ Some k = ap (λ xs. slice_get xs ssn) (sym (messages_first n p)) ∙ h in cc);
+    logged = λ p d small. ap (has_entry d) (log_first n p) ∙ none_entry d;
+  };
+  reached = initial (volatile_of (beginners n)) (begins_with_nothing n);
+}
+
+-- the invariant after the first processes have begun; the others have sent nothing
+opens_kept : (n f p : ℕ) (past : List Entry) → p ≤ n → HaveBegunBelow n p past → IsKept n f [] past × ((q : ℕ) → p ≤ q → q < n → present_at (memories n f [] past) q ≡ Some (new_memory fin.empty))
+unfolding memories
+opens_kept n f zero past within h = grind (arith, first_sound n f, at_first)
+opens_kept n f (suc p) past within h =
+    let before = opens_kept n f p h.0 (omega (arith, within)) h.3 in
+    let sent = are_sends_kept n f [] h.0 (record { 0 = p }) 0 h.1 h.2 (new_memory fin.empty) h.4 (before.1 p (omega arith) (omega (arith, within))) (omega (arith, within)) refl before.0 in
+    subst (λ x. IsKept n f [] x × ((q : ℕ) → suc p ≤ q → q < n → present_at (memories n f [] x) q ≡ Some (new_memory fin.empty))) (sym h.5)
+    (sent.0, λ q above low. sent.1 q (λ e. omega (arith, above, (let same : p ≡ q = e in same))) ∙ before.1 q (omega (arith, above)) low)
+
+-- the initial state satisfies the invariant
+pub openings_are_runs : StartSatisfiesInvariant
+openings_are_runs r h none = subst (λ ws. IsKept r.recording.processes r.faults ws r.recording.past) (sym none) (opens_kept r.recording.processes r.faults r.recording.processes r.recording.past (omega arith) h).0
+
+-- each reachable run satisfies the invariant
+pub made_runs : (r : Run) → IsReachable r → SatisfiesInvariant r
+made_runs r (opened _ h none) = openings_are_runs r h none
+made_runs new (stepped old _ request reply made step) = steps_keep_runs old new request reply step (made_runs old made)

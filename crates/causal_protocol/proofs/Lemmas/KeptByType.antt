@@ -12,8 +12,7 @@ use Rattle.causal_protocol.specs.Steps.{Steps}
 use Rattle.causal_protocol.specs.Invariant.{SlotsAreSingle}
 use Rattle.causal_protocol.specs.Runs.{HaveBegunBelow, SatisfiesInvariant}
 use Rattle.causal_protocol.proofs.Facts.{safe, single_slots, followed}
-use Rattle.causal_protocol.proofs.BeginningKeeps.{openings_are_runs}
-use Rattle.causal_protocol.proofs.StepKeeps.{steps_keep_runs}
+use Rattle.causal_protocol.proofs.StepKeeps.{openings_are_runs, steps_keep_runs}
 
 -- safety and single slots have at most one proof
 IsSafe-prop : (n f : ℕ) (past : List Entry) → IsProp (IsSafe n f past)

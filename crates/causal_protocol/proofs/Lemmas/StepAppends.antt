@@ -23,24 +23,15 @@ written-stable : (ds : List Det) → count_by is_stable_entry (map Stable ds) �
 written-stable [] = refl
 written-stable (d ∷ ds) = grind (arith, written-stable ds, sum_by-cons (λ x. cond (is_stable_entry x) 1 0) (Stable d) (map Stable ds))
 
-written-forget : (p : Pid) (ds : List Det) → count_by is_stable_entry (forget_entries p ds) ≡ 0
-written-forget p ds = grind arith
-
 -- a step appends as many stable entries as it has writers
 pub written-step : (r : Run) (request : Request) (reply : Reply) (es : List Entry) → LegalStep r request reply es → count_by is_stable_entry es ≡ length (writers_of request es)
 unfolding LegalStep
-written-step r request reply es legal = grind (arith, written-sends_of, written-stable, length-replicate, written-forget)
-
-IsPart-le : (fault : CoreFault) (done all : ℕ) → IsPartialFlush fault done all → done ≤ all
-IsPart-le fault done all part = grind arith
-
-length-forget : (p : Pid) (ds : List Det) → length (forget_entries p ds) ≡ forget_entry_count (length ds)
-length-forget p ds = grind arith
+written-step r request reply es legal = grind (arith, written-sends_of, written-stable, length-replicate)
 
 -- a reply gives the number of entries that the step appended
 pub told_entries-is : (r : Run) (request : Request) (reply : Reply) (es : List Entry) → LegalStep r request reply es → length es ≡ reply_entries reply
 unfolding LegalStep
-told_entries-is r request reply es legal = grind (arith, length-map, length-take, IsPart-le, length-forget)
+told_entries-is r request reply es legal = grind (arith, length-map, length-take)
 
 -- a past is longer by the number of appended entries
 pub length-pushed : (es past : List Entry) → length (append_all es past) ≡ length es + length past

@@ -1,5 +1,5 @@
 use Rattle.causal_protocol.proofs.Facts.{safe, single_slots, survivors_delivered}
-use Rattle.causal_protocol.proofs.BeginningKeeps.{made_runs}
+use Rattle.causal_protocol.proofs.StepKeeps.{made_runs}
 use Rattle.causal_protocol.proofs.laws.reachable_runs_are_safe.Goals as goal
 
 pub returns : goal.returns

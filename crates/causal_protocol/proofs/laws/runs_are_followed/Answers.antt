@@ -1,5 +1,5 @@
 use Rattle.causal_protocol.proofs.Facts.{followed}
-use Rattle.causal_protocol.proofs.BeginningKeeps.{made_runs}
+use Rattle.causal_protocol.proofs.StepKeeps.{made_runs}
 use Rattle.causal_protocol.proofs.laws.runs_are_followed.Goals as goal
 
 pub returns : goal.returns
