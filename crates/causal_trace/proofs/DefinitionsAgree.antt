@@ -7,15 +7,14 @@ use Rattle.causal_trace.specs.declared.entry.Entry.{Entry}
 use Rattle.causal_trace.specs.declared.entry.Entry.TheVariants.{Crash}
 use Rattle.causal_trace.specs.Dependence.{DirectlyPrecedes, Reaches, itself, onward, IsEventOf}
 use Rattle.causal_trace.specs.Laws.{InstantsArePrefixes, InstantsKeepPlaces, DownIsLastTransition, LogIsLastListing, IsPath, ReachesByPath}
-use Rattle.causal_trace.proofs.Lemmas.Instants.{entry_there}
+use Rattle.causal_trace.proofs.Lemmas.Instants.{entry_there, instant_past}
 use Rattle.causal_trace.proofs.Lemmas.EntryFacts.{delivers_up, restarts_down}
 
 -- instants
 
 -- instant t of a run is the state after its first t entries
 pub instants_prefixes : InstantsArePrefixes
-instants_prefixes entries t within =
-    grind (arith, take-append-drop t entries, reverse-append, drop_at, length-reverse (drop t entries), length-drop t entries, length-reverse entries)
+instants_prefixes = instant_past
 
 -- at an instant, the entry at each position is the run's
 pub instants_keep_places : InstantsKeepPlaces

@@ -11,15 +11,11 @@ use Rattle.causal_name.specs.Names.{same_message, message_of}
 use Rattle.causal_trace.specs.declared.chains.MessageReceipt.{MessageReceipt}
 use Rattle.causal_trace.specs.declared.chains.ReceiptNode.{ReceiptNode}
 use Rattle.causal_trace.specs.Inside.Chains.{Heads, HasHead, IsPlaceBelow, LeadDown, AreLinked, head_of, is_receipt_of, receipt_index, with_head}
-use Rattle.causal_trace.proofs.ReceiptChains.{below_higher, head_leads, leads_on, node_newest, node_older, one_head}
+use Rattle.causal_trace.proofs.ReceiptChains.{below_higher, head_leads, leads_on, node_newest, node_older}
 
 -- a newer node is in no chain of older nodes
 place_skips : (n : ℕ) (d : Det) (node : ReceiptNode) (older : List ReceiptNode) (at : Option ℕ) → IsPlaceBelow at (length older) → receipt_index n d (node ∷ older) at ≡ receipt_index n d older at
 place_skips n d node older at h = grind (arith, eqb_tells)
-
--- the newest node begins the chain from its index
-place_begins : (n : ℕ) (d : Det) (node : ReceiptNode) (older : List ReceiptNode) → receipt_index n d (node ∷ older) (Some (length older)) ≡ cond (nat_lt (length older) n && is_receipt_of d node.receipt) (Some (length older)) (receipt_index n d older node.next)
-place_begins n d node older = grind (arith, eqb_tells)
 
 -- a search from a node finds the node's own index, or continues at the linked node
 abbrev pub GoesOn : ℕ → Det → List ReceiptNode → ReceiptNode → ℕ → Type 0
@@ -43,15 +39,11 @@ receipt_placed heads nodes m n d receipt has linked =
       arith,
       common_steps,
       head_leads heads m (message_of d) (Some (length nodes)) has,
-      place_begins n d (record { receipt = receipt; next = head_of heads m }) nodes,
-      one_head,
+      eqb_tells (length nodes) (length nodes),
       place_skips n d (record { receipt = receipt; next = head_of heads m }) nodes (head_of heads (message_of d)) (linked.heads_lead (message_of d)),
     )
 
 -- ---- an older receipt with the same determinant
-
-begins_at : (at : Option ℕ) (n : ℕ) → option_map_or (λ k. k == n) at false ≡ true → at ≡ Some n
-begins_at at n h = grind (arith, eqb-true)
 
 -- an index that is found is that of a node
 pub place_within : (n : ℕ) (d : Det) (nodes : List ReceiptNode) (at : Option ℕ) (m : ℕ) → receipt_index n d nodes at ≡ Some m → m < length nodes
@@ -67,4 +59,4 @@ place_among n d (node ∷ older) at = grind (arith, place_among n d older node.n
 pub place_before : (d : Det) (nodes : List ReceiptNode) (at : Option ℕ) (m : ℕ) → receipt_index (m + 1) d nodes at ≡ Some m → receipt_index m d nodes at ≡ receipt_index m d nodes (Some m)
 place_before d [] at m is = refl
 place_before d (node ∷ older) at m is =
-    grind (arith, cases_Bool, cond-true, begins_at, cond-false, place_within, place_before d older node.next m, place_before d older at m)
+    grind (arith, cases_Bool, cond-true, eqb-true, cond-false, place_within, place_before d older node.next m, place_before d older at m)

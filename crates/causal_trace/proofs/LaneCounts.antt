@@ -10,6 +10,7 @@ use Rattle.causal_trace.specs.declared.entry.Entry.TheVariants.{Stable}
 use Rattle.causal_trace.specs.Past.{entry_at, is_stable}
 use Rattle.causal_trace.specs.Laws.{SendsAreCounted, DeliveriesAreCounted, DeliveredAtPosition, StableAtPosition}
 use Rattle.causal_trace.proofs.Lemmas.DeliveredDets.{found_det, at_delivered}
+use Rattle.causal_trace.proofs.Lemmas.Instants.{entry_beyond}
 
 -- counts
 
@@ -31,19 +32,12 @@ delivered_at_position past d = (found_det past d, λ h. at_delivered past d h.0 
 
 -- stable determinants
 
-entry_within : (past : List Entry) (k : ℕ) (e : Entry) → entry_at past k ≡ Some e → k < length past
-entry_within [] k e h = absurd (let x : None ≡ Some e = h in cc)
-entry_within (newest ∷ past) k e h = grind (arith, eqb_tells, entry_within past k e)
-
 newest_write : (past : List Entry) (d : Det) → (k : ℕ) × (entry_at (Stable d ∷ past) k ≡ Some (Stable d))
 newest_write past d = (length past, cond-true (length past == length past) (Some (Stable d)) (entry_at past (length past)) (eq-eqb (length past) (length past) refl))
 
-older_write : (e : Entry) (past : List Entry) (d : Det) → (k : ℕ) × (entry_at past k ≡ Some (Stable d)) → (k : ℕ) × (entry_at (e ∷ past) k ≡ Some (Stable d))
-older_write e past d h = grind (arith, entry_within, ne_eqb)
-
 found_write : (past : List Entry) (d : Det) → is_stable past d ≡ true → (k : ℕ) × (entry_at past k ≡ Some (Stable d))
 found_write [] d h = absurd (false≢true h)
-found_write (e ∷ past) d h = grind (arith, newest_write past d, older_write, found_write past d)
+found_write (e ∷ past) d h = grind (arith, newest_write past d, entry_beyond, ne_eqb, found_write past d)
 
 told_write : (past : List Entry) (d : Det) (k : ℕ) → entry_at past k ≡ Some (Stable d) → is_stable past d ≡ true
 told_write [] d k h = absurd (let e : None ≡ Some (Stable d) = h in cc)

@@ -12,43 +12,26 @@ use Rattle.causal_trace.specs.Rows.{rows_within, first_fault}
 use Rattle.causal_trace.specs.Inside.Index.{lane_state, first_lane, lane_after, subject, lanes_after, lanes_after_of, ArePresentLanes, CountersFit}
 use Rattle.causal_trace.proofs.Lemmas.CountBounds.{sends_few, deliveries_few}
 
-abbrev is_of : ℕ → Entry → Bool
-is_of p e = option_map_or (λ q. q.0 == p) (subject e) false
-
--- only the lane of the entry's process changes
-pub lane_of_next : (e : Entry) (past : List Entry) (p : ℕ) → lane_state (e ∷ past) p ≡ cond (is_of p e) (lane_after e (lane_state past p)) (lane_state past p)
-lane_of_next e past p = grind arith
-
 lanes_at : (subj : Option Pid) (n : ℕ) (e : Entry) (past : List Entry) (lanes : List LaneState) → ArePresentLanes n past lanes → (p : ℕ) (d : LaneState) → p < n → get_or (lanes_after_of subj e lanes) p d ≡ cond (option_map_or (λ q. q.0 == p) subj false) (lane_after e (lane_state past p)) (lane_state past p)
-lanes_at None n e past lanes are p d h = are.each p d h
-lanes_at (Some q) n e past lanes are p d h = grind (arith, get_or-set_same, get_or-set_other)
+lanes_at subj n e past lanes are p d h = grind (arith, get_or-set_same, get_or-set_other)
 
 -- an entry keeps the number of lanes
 pub lanes_length : (subj : Option Pid) (e : Entry) (lanes : List LaneState) → length (lanes_after_of subj e lanes) ≡ length lanes
-lanes_length None e lanes = refl
-lanes_length (Some q) e lanes = length-set lanes q.0 _
+lanes_length subj e lanes = grind (arith, length-set)
 
 -- the lanes after an entry are those of the past with it
 pub lanes_push : (n : ℕ) (e : Entry) (past : List Entry) (lanes : List LaneState) → ArePresentLanes n past lanes → ArePresentLanes n (e ∷ past) (lanes_after e lanes)
-lanes_push n e past lanes are = grind (arith, common_steps, lanes_length, lanes_at, lane_of_next)
+lanes_push n e past lanes are = grind (arith, common_steps, lanes_length, lanes_at)
 
 lane_few : (past : List Entry) (p : ℕ) → lane past p ≤ length past
 lane_few [] p = omega arith
 lane_few (e ∷ past) p = grind (arith, lane_few past p)
 
--- no count exceeds the number of entries
-lane_has_room : (past : List Entry) (p : ℕ) → length past < 16777216 → CountersFit (lane_state past p)
-lane_has_room past p h = grind (arith, lane_few, sends_few, deliveries_few)
-
 -- while a run has fewer entries than the limit, each lane's counters can count one more
 pub lanes_have_room : (n : ℕ) (past : List Entry) (lanes : List LaneState) → ArePresentLanes n past lanes → length past < 16777216 → All CountersFit lanes
-lanes_have_room n past lanes are short k d below = subst CountersFit (sym (are.each k d (omega (arith, are.count, below)))) (lane_has_room past k short)
+lanes_have_room n past lanes are short k d below = grind (arith, are.each k d, lane_few, sends_few, deliveries_few)
 
 -- the process of a legal entry is a process of the run
 pub subject_there : (n : ℕ) (past : List Entry) (e : Entry) → first_fault n past e ≡ None → IfSome (subject e) (λ p. p.0 < n)
 unfolding rows_within
 subject_there n past e h = grind arith
-
--- before any entry, each process has the initial lane
-pub no_lanes : (n : ℕ) → ArePresentLanes n [] (replicate n first_lane)
-no_lanes n = record { count = length-replicate n first_lane; each = λ p d h. get_or-replicate n p first_lane d h }

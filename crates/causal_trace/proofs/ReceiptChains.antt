@@ -34,29 +34,17 @@ node_newest node older k d is = grind (arith, reverse-append (node ∷ []) older
 pub node_older : (node : ReceiptNode) (older : List ReceiptNode) (k : ℕ) (d : ReceiptNode) → k < length older → get_or (reverse (node ∷ older)) k d ≡ get_or (reverse older) k d
 node_older node older k d h = grind (arith, reverse-append (node ∷ []) older, get_or_append_left, length-reverse)
 
-leads_older : (node : ReceiptNode) (older : List ReceiptNode) (found : ReceiptNode) (k : ℕ) → k < length older → Leads older found k → Leads (node ∷ older) found k
-leads_older node older found k h leads = grind arith
-
 -- each node links to an older one, and its chain continues there
 pub leads_on : (nodes : List ReceiptNode) (k : ℕ) (d : ReceiptNode) → LeadDown nodes → k < length nodes → Leads nodes (get_or (reverse nodes) k d) k
 leads_on [] k d down h = absurd (omega (arith, h))
-leads_on (node ∷ older) k d down h = grind (arith, eqb_tells, node_newest, node_older, leads_older, leads_on older k d down.1)
+leads_on (node ∷ older) k d down h = grind (arith, eqb_tells, node_newest, node_older, leads_on older k d down.1)
 
 -- the heads of a process, after those of one process were replaced
 heads_replaced : (heads : Heads) (p q : ℕ) (list : List (Option ℕ)) → p < length heads → heads_of (set heads p list) q ≡ cond (p == q) list (heads_of heads q)
 heads_replaced heads p q list h = grind (arith, eqb_tells, get_or-set_same, cond-true, get_or-set_other)
 
-none_at_end : (list : List (Option ℕ)) (i : ℕ) → get_or (list ++ None ∷ []) i None ≡ get_or list i None
-none_at_end list i = grind (arith, get_or_append_left, get_or-append_seam list None [] None, get_or_past, length-append)
-
 opened_same : (list : List (Option ℕ)) (ssn i : ℕ) → get_or (with_next_head list ssn) i None ≡ get_or list i None
-opened_same list ssn i = elim (length list == ssn) as (λ b. get_or (cond b (list ++ None ∷ []) list) i None ≡ get_or list i None) [ true ↦ none_at_end list i | false ↦ refl ]
-
-opened_longer : (list : List (Option ℕ)) (ssn : ℕ) → length list ≤ length (with_next_head list ssn)
-opened_longer list ssn = elim (length list == ssn) as (λ b. length list ≤ length (cond b (list ++ None ∷ []) list)) [ true ↦ omega (arith, length-append list (None ∷ [])) | false ↦ omega arith ]
-
-opened_there : (list : List (Option ℕ)) (ssn : ℕ) → ssn ≤ length list → ssn < length (with_next_head list ssn)
-opened_there list ssn h = grind (arith, length-append)
+opened_same list ssn i = grind (arith, get_or_append_left, get_or-append_seam list None [] None, get_or_past, length-append)
 
 -- one more message leaves all chains unchanged
 pub message_leads : (heads : Heads) (m q : MsgName) → m.source.0 < length heads → head_of (with_message heads m) q ≡ head_of heads q
@@ -64,7 +52,7 @@ message_leads heads m q h = grind (arith, heads_replaced, opened_same)
 
 -- the lists of heads never shrink
 pub message_longer : (heads : Heads) (m : MsgName) (q : ℕ) → m.source.0 < length heads → length (heads_of heads q) ≤ length (heads_of (with_message heads m) q)
-message_longer heads m q h = grind (arith, heads_replaced, opened_longer)
+message_longer heads m q h = grind (arith, heads_replaced, length-append)
 
 -- a message keeps its head when another message gets one
 pub message_keeps : (heads : Heads) (m q : MsgName) → m.source.0 < length heads → HasHead heads q → HasHead (with_message heads m) q
@@ -72,7 +60,7 @@ message_keeps heads m q h has = grind (arith, length-set, message_longer)
 
 -- the next message of its source has a head
 pub message_there : (heads : Heads) (m : MsgName) → m.source.0 < length heads → m.ssn ≤ length (heads_of heads m.source.0) → HasHead (with_message heads m) m
-message_there heads m h next = grind (arith, length-set, heads_replaced, cond-true, eq-eqb, opened_there)
+message_there heads m h next = grind (arith, length-set, heads_replaced, cond-true, eq-eqb, length-append)
 
 -- replacing the head of one message changes no other head
 pub head_leads : (heads : Heads) (m q : MsgName) (at : Option ℕ) → HasHead heads m → head_of (with_head heads m at) q ≡ cond (same_message m q) at (head_of heads q)
@@ -94,18 +82,9 @@ linked_message heads nodes m h linked = grind (arith, message_leads)
 pub linked_receipt : (heads : Heads) (nodes : List ReceiptNode) (m : MsgName) (receipt : MessageReceipt) → HasHead heads m → AreLinked heads nodes → AreLinked (with_head heads m (Some (length nodes))) (record { receipt = receipt; next = head_of heads m } ∷ nodes)
 linked_receipt heads nodes m receipt has linked = grind (arith, head_leads)
 
--- equal message names have the same head
-pub one_head : (heads : Heads) (m q : MsgName) → same_message m q ≡ true → head_of heads m ≡ head_of heads q
-one_head heads m q same = grind arith
-
 -- the chain of each message, after one more receipt
 pub receipt_leads : (heads : Heads) (nodes : List ReceiptNode) (m q : MsgName) (receipt : MessageReceipt) → HasHead heads m → AreLinked heads nodes → chain (record { receipt = receipt; next = head_of heads m } ∷ nodes) (head_of (with_head heads m (Some (length nodes))) q) ≡ cond (same_message m q) (receipt ∷ chain nodes (head_of heads q)) (chain nodes (head_of heads q))
-receipt_leads heads nodes m q receipt has linked = grind (arith, head_leads, one_head, chain_skips)
-
--- an empty head begins an empty chain
-chain_none : (nodes : List ReceiptNode) → chain nodes None ≡ []
-chain_none [] = refl
-chain_none (node ∷ older) = chain_none older
+receipt_leads heads nodes m q receipt has linked = grind (arith, head_leads, chain_skips)
 
 -- a walk along a chain visits descending indices
 pub walk_falls : (next : Option ℕ) (k : ℕ) → IsPlaceBelow next k → option_map_or (λ i. i + 1) next 0 < k + 1
@@ -113,5 +92,5 @@ walk_falls next k h = grind arith
 
 -- an empty head has no receipts
 pub chain_ends : (nodes : List ReceiptNode) (at : Option ℕ) → ((k : ℕ) → at ≡ Some k → ⊥) → chain nodes at ≡ []
-chain_ends nodes None h = chain_none nodes
-chain_ends nodes (Some k) h = absurd (h k refl)
+chain_ends [] at h = refl
+chain_ends (node ∷ older) at h = grind (arith, chain_ends older at h)

@@ -65,12 +65,9 @@ inside d n f is =
     let both = between (det_cmp d f.det) (det_cmp f.det d) (nat_cmp 0 f.number) (nat_cmp f.number n) (dets_total.antisymm d f.det) is.0 is.1 in
     (exact_dets f.det d both.0, ranked f.number n Less (sym both.1))
 
-zero_least : (j : ℕ) → is_gt (nat_cmp 0 j) ≡ false
-zero_least j = grind (arith, nat_tests)
-
 -- each such delivery is among them
 among : (d : Det) (n j : ℕ) → j < n → IsIn d n (with_number d j)
-among d n j low = (ap is_gt (by_number d 0 j) ∙ zero_least j, by_number d j n ∙ sym (nat_cmp_is j n Less low))
+among d n j low = grind (arith, nat_tests, by_number, nat_cmp_is)
 
 module _ (s : BTreeSet NumberedDelivery) (dets : List Det) (are : (d : Det) (i : ℕ) → contains delivery_cmp s (with_number d i) ≡ is_number_of i dets d) (d : Det) (k n : ℕ) (same : (j : ℕ) → j < k → j < length dets → j < n) (low : n ≤ k) (r : List NumberedDelivery) (is : IsKeyRangeOf delivery_cmp (Included (with_number d 0)) (Excluded (with_number d n)) s r) where
   -- the last delivery of the range is the newest with the determinant
@@ -95,22 +92,9 @@ module _ (s : BTreeSet NumberedDelivery) (dets : List Det) (are : (d : Det) (i :
   pub none_newest : r ≡ [] → None ≡ number_of k dets d
   none_newest empty = sym (none_is k dets d (λ j below. unnumbered empty j (is_number_of j dets d) refl below))
 
--- whether two deliveries compare as equal
-same_delivery : (a d : Det) (n i : ℕ) → is_at (delivery_cmp (with_number a n)) (with_number d i) ≡ (same_det a d && n == i)
-same_delivery a d n i = grind (arith, det_ties, nat_ties)
-
-choose : (a n_is : Bool) (b c : Bool) → (n_is ≡ true → b ≡ false) → b ≡ c → cond (a && n_is) true b ≡ cond n_is a c
-choose a n_is b c free is = grind arith
-
-equal_turned : (i n : ℕ) → (i == n) ≡ (n == i)
-equal_turned i n = grind (arith, nat_tests)
-
 -- a set with one more delivery, the newest, has the deliveries with its determinant and with the older ones
 pub numbered_next : (s new : BTreeSet NumberedDelivery) (dets : List Det) (a : Det) (n : ℕ) → length dets ≡ n → ((d : Det) (i : ℕ) → contains delivery_cmp s (with_number d i) ≡ is_number_of i dets d) → ((q : NumberedDelivery) → contains delivery_cmp new q ≡ cond (is_at (delivery_cmp (with_number a n)) q) true (contains delivery_cmp s q)) → (d : Det) (i : ℕ) → contains delivery_cmp new (with_number d i) ≡ is_number_of i (a ∷ dets) d
-numbered_next s new dets a n count are added d i =
-    added (with_number d i)
-    ∙ ap (λ b. cond b true (contains delivery_cmp s (with_number d i))) (same_delivery a d n i ∙ ap (λ b. same_det a d && b) (equal_turned n i ∙ ap (λ m. i == m) (sym count)))
-    ∙ choose (same_det a d) (i == length dets) (contains delivery_cmp s (with_number d i)) (is_number_of i dets d) (λ is. are d i ∙ number_free i dets d (let e : i ≡ length dets = eqb-true i (length dets) is in omega (arith, e))) (are d i)
+numbered_next s new dets a n count are added d i = grind (arith, nat_tests, det_ties, nat_ties, number_free, are d i, added (with_number d i))
 
 -- there are at most as many deliveries as entries
 pub dets_few : (past : List Entry) → length (delivered_dets past) ≤ length past

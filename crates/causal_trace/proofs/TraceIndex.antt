@@ -27,7 +27,7 @@ use Rattle.causal_trace.proofs.ReceiptChains.{head_keeps, head_lengths, linked_m
 use Rattle.causal_trace.proofs.DeliveryPlaces.{receipt_placed, place_before}
 use Rattle.causal_trace.proofs.Lemmas.EntryFacts.{delivers_sent}
 use Rattle.causal_trace.proofs.Lemmas.WellFormed.{kept_push}
-use Rattle.causal_trace.proofs.LaneRecords.{lanes_push, subject_there, no_lanes}
+use Rattle.causal_trace.proofs.LaneRecords.{lanes_push, subject_there}
 
 -- a run has at most as many restarts as entries
 pub restarts_few : (past : List Entry) → restarts past ≤ length past
@@ -56,9 +56,6 @@ numbered_next : (n : ℕ) (past : List Entry) (from to : Pid) (ssn : ℕ) → fi
 unfolding rows_within
 numbered_next n past from to ssn h = grind (arith, eqb-true)
 
-named_push : (e : Entry) (past : List Entry) (heads : Heads) → IfSome (message_sent e) (HasHead heads) → HasHeads past heads → HasHeads (e ∷ past) heads
-named_push e past heads own older k = grind arith
-
 named_grown : (past : List Entry) (heads new : Heads) → ((m : MsgName) → HasHead heads m → HasHead new m) → HasHeads past heads → HasHeads past new
 named_grown past heads new grown older k =
     elim (message_at past k) as (λ o. IfSome o (HasHead heads) → IfSome o (HasHead new)) [ None ↦ λ _. tt | Some m ↦ grown m ] (older k)
@@ -74,7 +71,6 @@ module _ (n : ℕ) (past : List Entry) (c : ChainsState) (are : AreChains n past
         length-set c.heads from.0 (with_next_head (heads_of c.heads from.0) ssn),
         linked_message c.heads c.nodes (record { source = from; ssn = ssn }) (omega (arith, below, are.count)) are.linked,
         message_longer,
-        named_push,
         named_grown,
         message_keeps,
         message_leads,
@@ -90,7 +86,7 @@ module _ (n : ℕ) (past : List Entry) (c : ChainsState) (are : AreChains n past
         linked = linked_receipt c.heads c.nodes m receipt has are.linked;
         counted = grind arith;
         sent = λ p h. grind (arith, head_lengths c.heads m p (Some (length c.nodes)) has.source);
-        named = named_push (Deliver to send rsn listed) past _ tt (named_grown past c.heads _ (λ q h. head_keeps c.heads m q (Some (length c.nodes)) has.source h) are.named);
+        named = grind (arith, named_grown past c.heads (with_head c.heads m (Some (length c.nodes))) (λ q h. head_keeps c.heads m q (Some (length c.nodes)) has.source h) are.named);
         each = λ q. grind (arith, receipt_leads);
         numbered = grind arith;
         placed = λ k d. grind (arith, receipt_placed c.heads c.nodes m k d receipt has are.linked, are.placed k d);
@@ -104,14 +100,11 @@ module _ (n : ℕ) (past : List Entry) (c : ChainsState) (are : AreChains n past
         arith,
         chains_delivered to send rsn l listed (delivers_message n past to send rsn listed next).0 (delivers_message n past to send rsn listed next).1 (at (det_from to rsn (delivers_message n past to send rsn listed next).0) (ap (option_map (det_from to rsn)) (delivers_message n past to send rsn listed next).1)),
       )
-  chains_push e l next at = grind (arith, named_push e past c.heads tt are.named)
-
-no_heads : (n p : ℕ) → heads_of (replicate n []) p ≡ []
-no_heads n p = grind (arith, get_or-replicate, get_or_past, length-replicate)
+  chains_push e l next at = grind arith
 
 -- the initial index is that of no entries
 pub indexed_none : (n : ℕ) (lanes : List LaneState) (c : ChainsState) (sorted : SortedDeliveries) → IsProcessCount n → lanes ≡ replicate n first_lane → c.heads ≡ replicate n [] → c.nodes ≡ [] → AreDeliveries sorted [] → IsIndexed (record { processes = n; past = [] }) 0 0 lanes c sorted
-indexed_none n lanes c sorted count all_fresh no_chains no_nodes unused = grind (arith, common_steps, no_lanes, length-replicate, no_heads)
+indexed_none n lanes c sorted count all_fresh no_chains no_nodes unused = grind (arith, common_steps, length-replicate, get_or-replicate, get_or_past)
 
 -- the index after a legal entry is that of the past with it
 pub indexed_push : (r : Recording) (e : Entry) (listed restarted l : ℕ) (lanes : List LaneState) (c new : ChainsState) (sorted resorted : SortedDeliveries) → IsIndexed r listed restarted lanes c sorted → first_fault r.processes r.past e ≡ None → ((d : Det) → det_of r.past e ≡ Some d → l ≡ lane r.past d.dest.0) → new.heads ≡ heads_after (message_sent e) (det_of r.past e) c → new.nodes ≡ nodes_after (message_sent e) (det_of r.past e) l c → AreDeliveries resorted (delivered_dets (e ∷ r.past)) → IsIndexed (with_entry r e) (listed + length (listed_by e)) (restarted + cond (is_restart e) 1 0) (lanes_after e lanes) new resorted
@@ -134,10 +127,6 @@ indexed_same r listed restarted lanes c new sorted resorted was heads nodes deli
 -- the sender of a legal send is a process of the run
 pub sender_there : (n : ℕ) (past : List Entry) (e : Entry) → first_fault n past e ≡ None → IfSome (message_sent e) (λ m. m.source.0 < n)
 sender_there n past e h = grind (arith, subject_there)
-
--- the message of a legal delivery has a head
-pub own_named : (past : List Entry) (e : Entry) (heads : Heads) → HasHeads past heads → IfSome (det_of past e) (λ d. HasHead heads (message_of d))
-own_named past e heads named = grind arith
 
 -- the search from a delivery finds the next older one
 pub older_place : (n : ℕ) (past : List Entry) (heads : Heads) (nodes : List ReceiptNode) (m : ℕ) (d : Det) → AreChains n past heads nodes → number_of (m + 1) (delivered_dets past) d ≡ Some m → receipt_index m d nodes (Some m) ≡ number_of m (delivered_dets past) d

@@ -8,7 +8,7 @@ use Rattle.causal_trace.specs.declared.entry.Entry.{Entry}
 use Rattle.causal_trace.specs.Past.{instant, det_at, det_of}
 use Rattle.causal_trace.specs.Rows.{Recording, AreLegalEntries}
 use Rattle.causal_trace.specs.State.{entries_of, past_at}
-use Rattle.causal_trace.proofs.Lemmas.Instants.{det_beyond, past_more}
+use Rattle.causal_trace.proofs.Lemmas.Instants.{det_beyond, past_more, instant_past}
 
 -- one more entry leaves the earlier instants unchanged
 pub instants_stay : (e : Entry) (past : List Entry) (t : ℕ) → t ≤ length past → instant (e ∷ past) t ≡ instant past t
@@ -42,17 +42,7 @@ last_instant past = ap (λ n. drop n past) (let none : length past - length past
 
 -- the states of the entries, oldest first, are the instants
 pub read_instant : (past : List Entry) (t : ℕ) → t ≤ length past → past_at (reverse past) t ≡ instant past t
-read_instant past t within =
-    grind (
-      arith,
-      reverse-reverse past,
-      take-append-drop t (reverse past),
-      reverse-append,
-      drop_at,
-      length-reverse (drop t (reverse past)),
-      length-drop t (reverse past),
-      length-reverse past,
-    )
+read_instant past t within = grind (arith, reverse-reverse past, length-reverse past, instant_past (reverse past) t)
 
 -- the first instant has no entries
 pub no_entry : (past : List Entry) → instant past 0 ≡ []

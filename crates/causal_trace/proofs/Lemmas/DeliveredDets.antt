@@ -15,21 +15,15 @@ pub has_more : (dets : List Det) (det d : Det) → list_has (dets ++ det ∷ [])
 has_more [] det d = grind arith
 has_more (x ∷ dets) det d = grind (arith, has_more dets det d)
 
-own_is_det : (own : Option Det) (d : Det) → own ≡ Some d → is_det own d ≡ true
-own_is_det own d h = subst (λ o. is_det o d ≡ true) (sym h) (same_itself d)
-
 newest_det : (e : Entry) (past : List Entry) (d : Det) → det_of past e ≡ Some d → (k : ℕ) × (det_at (e ∷ past) k ≡ Some d)
 newest_det e past d h = (length past, cond-true (length past == length past) (det_of past e) (det_at past (length past)) (eq-eqb (length past) (length past) refl) ∙ h)
-
-older_det : (e : Entry) (past : List Entry) (d : Det) → (k : ℕ) × (det_at past k ≡ Some d) → (k : ℕ) × (det_at (e ∷ past) k ≡ Some d)
-older_det e past d h = grind (arith, det_within, ne_eqb)
 
 -- the position of a delivery with a delivered determinant
 pub found_det : (past : List Entry) (d : Det) → is_delivered past d ≡ true → (k : ℕ) × (det_at past k ≡ Some d)
 found_det [] d h = absurd (false≢true h)
-found_det (e ∷ past) d h = grind (arith, newest_det, older_det, found_det past d)
+found_det (e ∷ past) d h = grind (arith, newest_det, det_within, ne_eqb, found_det past d)
 
 -- the determinant of a delivery is delivered
 pub at_delivered : (past : List Entry) (d : Det) (k : ℕ) → det_at past k ≡ Some d → is_delivered past d ≡ true
 at_delivered [] d k h = absurd (let e : None ≡ Some d = h in cc)
-at_delivered (e ∷ past) d k h = grind (arith, eqb_tells, own_is_det, cond-true, at_delivered past d k)
+at_delivered (e ∷ past) d k h = grind (arith, eqb_tells, same_itself, cond-true, at_delivered past d k)

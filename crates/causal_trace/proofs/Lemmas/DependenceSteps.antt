@@ -15,13 +15,10 @@ pub event_once : (past : List Entry) (i p l q m : ℕ) → IsEventOf past i p l 
 event_once [] i p l q m a b = absurd a
 event_once (e ∷ past) i p l q m a b = grind (arith, event_once past i p l q m, event_below)
 
-lane_grows : (e : Entry) (past : List Entry) (p : ℕ) → lane past p ≤ lane (e ∷ past) p
-lane_grows e past p = grind arith
-
 -- no event belongs to a future lane
 pub event_lane : (past : List Entry) (i p l : ℕ) → IsEventOf past i p l → l ≤ lane past p
 event_lane [] i p l h = absurd h
-event_lane (e ∷ past) i p l h = grind (arith, event_lane past i p l, lane_grows e past p)
+event_lane (e ∷ past) i p l h = grind (arith, event_lane past i p l)
 
 -- an event other than the newest is an event of the past without the newest entry
 pub event_old : (e : Entry) (past : List Entry) (i p l : ℕ) → i < length past → IsEventOf (e ∷ past) i p l → IsEventOf past i p l
@@ -67,16 +64,13 @@ pub data ReachesNewest (e : Entry) (past : List Entry) (i p : ℕ) : Type 0 wher
   in_lane : (j : ℕ) → IsEventOf past j p (lane past p) → Reaches past i j → ReachesNewest e past i p
   through_message : (j : ℕ) → is_delivery_of j e ≡ true → Reaches past i j → ReachesNewest e past i p
 
-preceded : (e : Entry) (past : List Entry) (i p j k : ℕ) → AreForward (e ∷ past) → k ≡ length past → actor e ≡ Some p → Reaches (e ∷ past) i j → DirectlyPrecedes (e ∷ past) j k → ReachesNewest e past i p
-preceded e past i p j k forward is who r (in_order q l h a b) =
-    in_lane j (grind (arith, event_below, event_old)) (reaches_old e past i forward j (omega (arith, h, is)) r)
-preceded e past i p j k forward is who r (by_message h) =
-    through_message j (grind (arith, delivers_below)) (reaches_old e past i forward j (omega (arith, forward k j h, is)) r)
-
 -- an event that reaches the newest one is it, or reaches an event of its lane or the send of its message
 pub reaches_newest : (e : Entry) (past : List Entry) (i p k : ℕ) → AreForward (e ∷ past) → k ≡ length past → actor e ≡ Some p → Reaches (e ∷ past) i k → ReachesNewest e past i p
 reaches_newest e past i p k forward is who (itself q l at) = is_newest is
-reaches_newest e past i p k forward is who (onward {j} r d) = preceded e past i p j k forward is who r d
+reaches_newest e past i p k forward is who (onward {j} r (in_order q l h a b)) =
+    in_lane j (grind (arith, event_below, event_old)) (reaches_old e past i forward j (omega (arith, h, is)) r)
+reaches_newest e past i p k forward is who (onward {j} r (by_message h)) =
+    through_message j (grind (arith, delivers_below)) (reaches_old e past i forward j (omega (arith, forward k j h, is)) r)
 
 -- a process that depends on k after one more entry did before, or the entry is its event and k reaches that
 pub depends_old : (e : Entry) (past : List Entry) (k p : ℕ) → AreForward (e ∷ past) → is_down past p ≡ false → lane (e ∷ past) p ≡ lane past p → Depends (e ∷ past) k p → Depends past k p ⊎ ((actor e ≡ Some p) × ReachesNewest e past k p)

@@ -25,20 +25,10 @@ within_limits n past e h = grind arith
 pub limits : (n a b : ℕ) → (nat_lt 16777216 (n + 1) || nat_lt 268435456 (a + b)) ≡ false → (n + 1 ≤ 16777216) × (a + b ≤ 268435456)
 limits n a b h = grind arith
 
--- no refusal row has the error `NoMemory`
-pub no_memory_told : (most n : ℕ) (past : List Entry) (e : Entry) → first_refusal (rows_within most n past e) ≡ Some NoMemory → ⊥
-unfolding rows_within
-no_memory_told most n past e h = grind arith
-
 -- the restarts of a trace within limits are those of any trace
 limit_below : (entries : ℕ) → restart_limit entries ≤ 65536
 unfolding restart_limit
 limit_below entries = elim (nat_le entries default_entries) as (λ b. cond b 192 (min 65536 (entries / 256)) ≤ 65536) [ true ↦ omega arith | false ↦ min-le_left 65536 (entries / 256) ]
-
--- an entry that is legal with fewer restarts is legal with more
-more_restarts : (less more n : ℕ) (past : List Entry) (e : Entry) → less ≤ more → first_refusal (rows_within less n past e) ≡ None → first_refusal (rows_within more n past e) ≡ None
-unfolding rows_within
-more_restarts less more n past e few h = grind arith
 
 -- an entry that is legal with this many restarts leaves a run within them
 restarts_next : (most n : ℕ) (past : List Entry) (e : Entry) → restarts past ≤ most → first_refusal (rows_within most n past e) ≡ None → restarts (e ∷ past) ≤ most
@@ -56,7 +46,8 @@ next_restarts most n past e few h = grind arith
 
 -- an entry that is legal within limits is legal by the rows
 pub rows_next : (entries : ℕ) (r : Recording) (e : Entry) → fault_within entries r e ≡ None → fault_by_refusal_rows r e ≡ None
-rows_next entries r e h = grind (arith, more_restarts (restart_limit entries) 65536 r.processes r.past e (limit_below entries))
+unfolding rows_within
+rows_next entries r e h = grind (arith, limit_below entries)
 
 -- an entry that is legal within limits leaves a run within them
 pub within_next : (entries : ℕ) (r : Recording) (e : Entry) → FitsLimits entries r → fault_within entries r e ≡ None → FitsLimits entries (with_entry r e)
@@ -72,7 +63,8 @@ next_within entries r e w next = grind (arith, next_restarts)
 
 -- the check of the limits does not return `NoMemory` either
 pub no_memory_within : (entries : ℕ) (r : Recording) (e : Entry) → fault_within entries r e ≡ Some NoMemory → ⊥
-no_memory_within entries r e h = grind (arith, no_memory_told)
+unfolding rows_within
+no_memory_within entries r e h = grind arith
 
 -- a well-formed recording with a legal entry is well formed
 pub formed_push : (r : Recording) (e : Entry) → IsWellFormed r → first_fault r.processes r.past e ≡ None → IsWellFormed (with_entry r e)

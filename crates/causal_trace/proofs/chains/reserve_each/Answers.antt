@@ -8,17 +8,13 @@ use Rattle.causal_trace.proofs.chains.reserve_each.Goals.{After-reserve}
 inside : (c : After-reserve) → c.loop-list.list-index < length c.loop-list.lists
 inside c = omega (arith, c.loop-list-test.true, c.loop-list.auto.lists)
 
--- the list keeps its items and has the capacity
-same : (c : After-reserve) → c.reserve.new.self.items ≡ (get_or c.loop-list.lists c.loop-list.list-index c.list-item.result).items
-same c = c.reserve.ensures.items
-
 grown : (c : After-reserve) → (other : ℕ) → least_room c.args.lists.now other ≤ least_room (set c.loop-list.lists c.loop-list.list-index c.reserve.new.self) other
 grown c other =
     let here : room (get_or c.loop-list.lists c.loop-list.list-index c.list-item.result) ≤ room c.reserve.new.self = omega (arith, c.reserve.ensures.capacity, c.reserve.ensures.len) in
     omega (arith, c.loop-list.invariant.grown other, least_grown c.loop-list.lists c.loop-list.list-index other c.reserve.new.self c.list-item.result (inside c) here)
 
 pub returns-in_err-reserve-clause-items : goal.returns-in_err-reserve-clause-items
-returns-in_err-reserve-clause-items c = grind (arith, map-set_same, same)
+returns-in_err-reserve-clause-items c = grind (arith, map-set_same)
 
 pub returns-in_err-reserve-clause-grown : goal.returns-in_err-reserve-clause-grown
 returns-in_err-reserve-clause-grown c = grind (arith, grown)
@@ -31,7 +27,7 @@ returns-in_err-reserve-clause-full c =
     on_err c.from_residual.result few
 
 pub loop-list-preserved : goal.loop-list-preserved
-loop-list-preserved c = grind (arith, map-set_same, same, grown, room_set, inside)
+loop-list-preserved c = grind (arith, map-set_same, grown, room_set, inside)
 
 pub returns-clause-ok : goal.returns-clause-ok
 returns-clause-ok c = grind (arith, least_each)

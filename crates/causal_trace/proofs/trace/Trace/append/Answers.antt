@@ -12,7 +12,7 @@ use Rattle.causal_trace.specs.Inside.SortedDeliveries.{AreDeliveries}
 use Rattle.causal_trace.proofs.Lemmas.WellFormed.{kept_push}
 use Rattle.causal_trace.proofs.Lemmas.Instants.{past_whole}
 use Rattle.causal_trace.proofs.LaneRecords.{subject_there, lanes_have_room, lanes_length}
-use Rattle.causal_trace.proofs.TraceIndex.{det_there, own_named, sender_there, indexed_push, restarts_few, deliveries_in_few}
+use Rattle.causal_trace.proofs.TraceIndex.{det_there, sender_there, indexed_push, restarts_few, deliveries_in_few}
 use Rattle.causal_trace.proofs.trace.Trace.append.Goals as goal
 use Rattle.causal_trace.proofs.trace.Trace.append.Goals.{After-det_of_next-own}
 
@@ -48,7 +48,7 @@ pub add_to_chains-requires-clause-sent : goal.add_to_chains-requires-clause-sent
 add_to_chains-requires-clause-sent c = grind (arith, sender_there, next)
 
 pub add_to_chains-requires-clause-delivered : goal.add_to_chains-requires-clause-delivered
-add_to_chains-requires-clause-delivered c = grind (arith, own_is ((goal.at.add_to_chains-requires-clause-delivered c).After-det_of_next-own), own_named)
+add_to_chains-requires-clause-delivered c = grind (arith, own_is ((goal.at.add_to_chains-requires-clause-delivered c).After-det_of_next-own))
 
 pub add_to_chains-requires-clause-few : goal.add_to_chains-requires-clause-few
 add_to_chains-requires-clause-few c = grind (arith, kept, deliveries_in_few)
