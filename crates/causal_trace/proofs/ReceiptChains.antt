@@ -54,10 +54,6 @@ message_leads heads m q h = grind (arith, heads_replaced, opened_same)
 pub message_longer : (heads : Heads) (m : MsgName) (q : ℕ) → m.source.0 < length heads → length (heads_of heads q) ≤ length (heads_of (with_message heads m) q)
 message_longer heads m q h = grind (arith, heads_replaced, length-append)
 
--- a message keeps its head when another message gets one
-pub message_keeps : (heads : Heads) (m q : MsgName) → m.source.0 < length heads → HasHead heads q → HasHead (with_message heads m) q
-message_keeps heads m q h has = grind (arith, length-set, message_longer)
-
 -- the next message of its source has a head
 pub message_there : (heads : Heads) (m : MsgName) → m.source.0 < length heads → m.ssn ≤ length (heads_of heads m.source.0) → HasHead (with_message heads m) m
 message_there heads m h next = grind (arith, length-set, heads_replaced, cond-true, eq-eqb, length-append)
@@ -69,18 +65,6 @@ head_leads heads m q at has = grind (arith, eqb_tells, get_or-set_same, cond-tru
 -- replacing a head keeps the length of each list
 pub head_lengths : (heads : Heads) (m : MsgName) (q : ℕ) (at : Option ℕ) → m.source.0 < length heads → length (heads_of (with_head heads m at) q) ≡ length (heads_of heads q)
 head_lengths heads m q at h = grind (arith, heads_replaced, length-set)
-
--- a message keeps a head when any head is replaced
-pub head_keeps : (heads : Heads) (m q : MsgName) (at : Option ℕ) → m.source.0 < length heads → HasHead heads q → HasHead (with_head heads m at) q
-head_keeps heads m q at h has = grind (arith, length-set, head_lengths)
-
--- after one more message, heads and nodes link to existing nodes
-pub linked_message : (heads : Heads) (nodes : List ReceiptNode) (m : MsgName) → m.source.0 < length heads → AreLinked heads nodes → AreLinked (with_message heads m) nodes
-linked_message heads nodes m h linked = grind (arith, message_leads)
-
--- after one more receipt, heads and nodes link to existing nodes
-pub linked_receipt : (heads : Heads) (nodes : List ReceiptNode) (m : MsgName) (receipt : MessageReceipt) → HasHead heads m → AreLinked heads nodes → AreLinked (with_head heads m (Some (length nodes))) (record { receipt = receipt; next = head_of heads m } ∷ nodes)
-linked_receipt heads nodes m receipt has linked = grind (arith, head_leads)
 
 -- the chain of each message, after one more receipt
 pub receipt_leads : (heads : Heads) (nodes : List ReceiptNode) (m q : MsgName) (receipt : MessageReceipt) → HasHead heads m → AreLinked heads nodes → chain (record { receipt = receipt; next = head_of heads m } ∷ nodes) (head_of (with_head heads m (Some (length nodes))) q) ≡ cond (same_message m q) (receipt ∷ chain nodes (head_of heads q)) (chain nodes (head_of heads q))

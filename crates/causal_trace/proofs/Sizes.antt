@@ -20,11 +20,8 @@ module _ (limit : ℕ) where
   message_small [] send h = tt
   message_small (e ∷ past) send h = grind (arith, message_small past send h.1)
 
-  det_small : (past : List Entry) (to : Pid) (send rsn : ℕ) → EntriesAreBounded limit past → to.0 < limit → rsn < 16777216 → IfSome (option_map (det_from to rsn) (message_at past send)) (DetIsBounded limit)
-  det_small past to send rsn h low few = grind (arith, message_small past send h)
-
   det_of_small : (past : List Entry) (e : Entry) → EntriesAreBounded limit past → EntryIsBounded limit e → IfSome (det_of past e) (DetIsBounded limit)
-  det_of_small past (Deliver to send rsn listed) h k = det_small past to send rsn h k.0 k.2
+  det_of_small past (Deliver to send rsn listed) h k = grind (arith, message_small past send h)
   det_of_small past e h k = tt
 
   delivered_small : (past : List Entry) (d : Det) → EntriesAreBounded limit past → is_delivered past d ≡ true → DetIsBounded limit d
@@ -39,7 +36,7 @@ module _ (limit : ℕ) where
   entry_small : (n : ℕ) (past : List Entry) (e : Entry) → n ≤ limit → EntriesAreBounded limit past → length past < 16777216 → first_fault n past e ≡ None → EntryIsBounded limit e
   unfolding rows_within
   entry_small n past (Deliver to send rsn listed) few h short next =
-      grind (arith, eqb-true, sent_within past send to.0, deliveries_few, det_small past to send rsn h, all_small past (det_of past (Deliver to send rsn listed)) listed h)
+      grind (arith, eqb-true, sent_within past send to.0, deliveries_few, message_small past send h, all_small past (det_of past (Deliver to send rsn listed)) listed h)
   entry_small n past e few h short next = grind (arith, eqb-true, sends_few, delivered_small, all_small past None)
 
 pub restarts_few : (n : ℕ) (past : List Entry) → AreLegalEntries n past → restarts past ≤ 65536

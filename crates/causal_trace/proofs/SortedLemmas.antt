@@ -27,11 +27,6 @@ pub number_low : (i : ℕ) (dets : List Det) (d : Det) → is_number_of i dets d
 number_low i [] d h = absurd (false≢true h)
 number_low i (det ∷ older) d h = grind (arith, nat_tests, number_low i older d)
 
--- no delivery has a number that is not below the number of deliveries
-pub number_free : (i : ℕ) (dets : List Det) (d : Det) → length dets ≤ i → is_number_of i dets d ≡ false
-number_free i [] d h = refl
-number_free i (det ∷ older) d h = grind (arith, nat_tests, number_free i older d)
-
 -- the greatest number below k of a delivery with the determinant is that of the newest among the first k
 pub newest_is : (k : ℕ) (dets : List Det) (d : Det) (i : ℕ) → i < k → is_number_of i dets d ≡ true → ((j : ℕ) → j < k → is_number_of j dets d ≡ true → j ≤ i) → number_of k dets d ≡ Some i
 newest_is k [] d i low h most = absurd (false≢true h)
@@ -83,18 +78,13 @@ module _ (s : BTreeSet NumberedDelivery) (dets : List Det) (are : (d : Det) (i :
       ∙ ap (λ e. is_lt (delivery_cmp (with_number e f.number) (with_number d j))) (sym f_is.0)
       ∙ is.4 f t end (with_number d j) (among d n j (same j below (number_low j dets d numbered))) (are d j ∙ numbered))))
 
-  unnumbered : r ≡ [] → (j : ℕ) (b : Bool) → is_number_of j dets d ≡ b → j < k → b ≡ false
-  unnumbered empty j false is_b below = refl
-  unnumbered empty j true is_b below =
-      sym is_b ∙ sym (are d j) ∙ is.5 empty (with_number d j) (among d n j (same j below (number_low j dets d is_b)))
-
   -- without deliveries in the range there is no newest
   pub none_newest : r ≡ [] → None ≡ number_of k dets d
-  none_newest empty = sym (none_is k dets d (λ j below. unnumbered empty j (is_number_of j dets d) refl below))
+  none_newest empty = sym (none_is k dets d (λ j below. grind (arith, same j below, number_low j dets d, is.5 empty (with_number d j), among d n j, are d j)))
 
 -- a set with one more delivery, the newest, has the deliveries with its determinant and with the older ones
 pub numbered_next : (s new : BTreeSet NumberedDelivery) (dets : List Det) (a : Det) (n : ℕ) → length dets ≡ n → ((d : Det) (i : ℕ) → contains delivery_cmp s (with_number d i) ≡ is_number_of i dets d) → ((q : NumberedDelivery) → contains delivery_cmp new q ≡ cond (is_at (delivery_cmp (with_number a n)) q) true (contains delivery_cmp s q)) → (d : Det) (i : ℕ) → contains delivery_cmp new (with_number d i) ≡ is_number_of i (a ∷ dets) d
-numbered_next s new dets a n count are added d i = grind (arith, nat_tests, det_ties, nat_ties, number_free, are d i, added (with_number d i))
+numbered_next s new dets a n count are added d i = grind (arith, nat_tests, det_ties, nat_ties, number_low i dets d, are d i, added (with_number d i))
 
 -- there are at most as many deliveries as entries
 pub dets_few : (past : List Entry) → length (delivered_dets past) ≤ length past

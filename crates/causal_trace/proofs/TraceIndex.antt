@@ -23,7 +23,7 @@ use Rattle.causal_trace.specs.Rows.{Recording, rows_within, first_fault}
 use Rattle.causal_trace.specs.State.{with_entry}
 use Rattle.causal_trace.specs.Inside.Index.{AreChains, HasHeads, first_lane, lanes_after, IsIndexed, is_restart}
 use Rattle.causal_trace.specs.Inside.Chains.{Heads, HasHead, ChainsState, head_of, receipt_index, heads_of, heads_after, nodes_after, with_next_head, with_head, with_message}
-use Rattle.causal_trace.proofs.ReceiptChains.{head_keeps, head_lengths, linked_message, linked_receipt, message_keeps, message_leads, message_longer, message_there, receipt_leads}
+use Rattle.causal_trace.proofs.ReceiptChains.{head_leads, head_lengths, message_leads, message_longer, message_there, receipt_leads}
 use Rattle.causal_trace.proofs.DeliveryPlaces.{receipt_placed, place_before}
 use Rattle.causal_trace.proofs.Lemmas.EntryFacts.{delivers_sent}
 use Rattle.causal_trace.proofs.Lemmas.WellFormed.{kept_push}
@@ -69,10 +69,9 @@ module _ (n : ℕ) (past : List Entry) (c : ChainsState) (are : AreChains n past
         common_steps,
         message_there,
         length-set c.heads from.0 (with_next_head (heads_of c.heads from.0) ssn),
-        linked_message c.heads c.nodes (record { source = from; ssn = ssn }) (omega (arith, below, are.count)) are.linked,
+        are.linked,
         message_longer,
         named_grown,
-        message_keeps,
         message_leads,
       )
 
@@ -83,10 +82,10 @@ module _ (n : ℕ) (past : List Entry) (c : ChainsState) (are : AreChains n past
       let receipt : MessageReceipt = record { dest = to; lane = l; rsn = rsn } in
       record {
         count = grind (arith, length-set);
-        linked = linked_receipt c.heads c.nodes m receipt has are.linked;
+        linked = grind (arith, head_leads, are.linked);
         counted = grind arith;
         sent = λ p h. grind (arith, head_lengths c.heads m p (Some (length c.nodes)) has.source);
-        named = grind (arith, named_grown past c.heads (with_head c.heads m (Some (length c.nodes))) (λ q h. head_keeps c.heads m q (Some (length c.nodes)) has.source h) are.named);
+        named = grind (arith, named_grown past c.heads (with_head c.heads m (Some (length c.nodes))) (λ q h. grind (arith, length-set, head_lengths)) are.named);
         each = λ q. grind (arith, receipt_leads);
         numbered = grind arith;
         placed = λ k d. grind (arith, receipt_placed c.heads c.nodes m k d receipt has are.linked, are.placed k d);

@@ -380,7 +380,7 @@ impl Trace {
 
     /// Checks whether process p is up after the first t entries; false if p is not below `processes`. O(t) time: a
     /// caller that needs every instant iterates over `entries` instead.
-    #[tactic(auto, using(crate::proofs::InstantQuestions::asked_instant, crate::proofs::InstantQuestions::is_process))]
+    #[tactic(auto, using(crate::proofs::Lemmas::AtInstants::asked_instant))]
     pub fn up(&self, t: u32, p: Pid) -> bool
         requires { t ≤ length self.now.recording.past }
         ensures { result ≡ is_up_at self.now.recording t p.0 }
@@ -390,7 +390,7 @@ impl Trace {
 
     /// Returns the lane of process p after the first t entries, which is its number of restarts; None if p is not
     /// below `processes`. O(t) time: a caller that needs every instant iterates over `entries` instead.
-    #[tactic(auto, using(crate::proofs::InstantQuestions::asked_instant, crate::proofs::InstantQuestions::is_process))]
+    #[tactic(auto, using(crate::proofs::Lemmas::AtInstants::asked_instant))]
     pub fn lane(&self, t: u32, p: Pid) -> Option<u32>
         requires { t ≤ length self.now.recording.past }
         ensures { result ≡ lane_at self.now.recording t p.0 }
@@ -404,7 +404,7 @@ impl Trace {
 
     /// Checks whether the process's present lane has delivered the message; false if p is not below `processes`.
     /// O(lanes that delivered the message) time; it reads no entry.
-    #[tactic(auto, using(crate::proofs::Receipts::received_told, crate::proofs::Receipts::received_there))]
+    #[tactic(auto, using(crate::proofs::LaneRecords::received_told, crate::proofs::LaneRecords::received_there))]
     pub fn has_delivered(&self, p: Pid, message: MsgName) -> bool
         ensures { result ≡ has_delivered self.now.recording.past p.0 message }
     {

@@ -1,6 +1,6 @@
 -- Facts of a run that hold at each of its instants.
-use Rattle.std.proofs.Common.{ℕ, zero, suc, cond, ◌≡◌, ◌+◌, ◌-◌, ◌<◌, ◌≤◌, List, [], ◌∷◌, length, get_or, drop, reverse, Some, refl, sym, ap, ◌∙◌, arith}
-use Rattle.std.specs.Prelude.{◌==◌}
+use Rattle.std.proofs.Common.{ℕ, zero, suc, cond, ◌≡◌, ◌+◌, ◌-◌, ◌<◌, ◌≤◌, List, [], ◌∷◌, length, get_or, drop, reverse, Some, refl, sym, ap, ◌∙◌, arith, true}
+use Rattle.std.specs.Prelude.{◌==◌, nat_lt}
 use Rattle.std.proofs.lemmas.List.{length-drop, length-reverse, reverse-append, reverse-reverse, drop_at, take-append-drop}
 use Rattle.std.proofs.lemmas.Bool.{cases_lt, cond-false, ne_eqb}
 use Rattle.causal_name.specs.declared.Det.{Det}
@@ -85,3 +85,7 @@ pub delivered_in : (past : List Entry) (t k : ℕ) (d : Det) → t ≤ length pa
 delivered_in past t k d within at =
     let early : k < t = omega (arith, det_within (instant past t) k d at, instant_length past t within) in
     sym (det_then past t k early within) ∙ at
+
+-- the first t entries, oldest first, are instant t of their past
+pub asked_instant : (slice entries past : List Entry) (t : ℕ) → slice ≡ entries → reverse entries ≡ past → t ≤ length past → past_at slice t ≡ instant past t
+asked_instant slice entries past t same made within = grind (arith, instant_past, length-reverse)

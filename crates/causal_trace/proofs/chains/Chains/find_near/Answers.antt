@@ -6,11 +6,8 @@ use Rattle.causal_trace.proofs.DeliveryPlaces.{place_on}
 use Rattle.causal_trace.proofs.chains.Chains.find_near.Goals as goal
 use Rattle.causal_trace.proofs.chains.Chains.find_near.Goals.{In-Some}
 
-there : (c : In-Some) → c.in-Some.k < length c.args.self.now.nodes
-there c = subst (λ at. IsPlaceBelow at (length c.args.self.now.nodes)) c.in-Some.is c.loop.invariant.inside
-
 pub returns-then-is_of_first : goal.returns-then-is_of_first
-returns-then-is_of_first c = grind (arith, there, reverse-reverse c.self.inside.nodes.items, place_on c.args.among c.args.det c.args.self.now.nodes, leads_on c.args.self.now.nodes)
+returns-then-is_of_first c = grind (arith, reverse-reverse c.self.inside.nodes.items, place_on c.args.among c.args.det c.args.self.now.nodes, leads_on c.args.self.now.nodes)
 
 pub loop-preserved : goal.loop-preserved
-loop-preserved c = grind (arith, there, reverse-reverse c.self.inside.nodes.items, place_on c.args.among c.args.det c.args.self.now.nodes, leads_on c.args.self.now.nodes, below_higher)
+loop-preserved c = grind (arith, reverse-reverse c.self.inside.nodes.items, place_on c.args.among c.args.det c.args.self.now.nodes, leads_on c.args.self.now.nodes, below_higher)
