@@ -1,5 +1,5 @@
 -- Members of the lists that are made from logs.
-use Rattle.std.proofs.Common.{ℕ, ◌≡◌, ◌<◌, Bool, true, cond, not, ◌&&◌, List, [], ◌∷◌, find, Option, Some, None, is_some, unwrap_or, refl, sym, ap, ◌∙◌, arith, true≢false}
+use Rattle.std.proofs.Common.{ℕ, ◌≡◌, ◌<◌, Bool, true, cond, not, ◌&&◌, ◌||◌, List, [], ◌∷◌, find, Some, None, is_some, sym, ap, ◌∙◌, arith, true≢false}
 use Rattle.std.specs.Prelude.{◌⊎◌}
 use Rattle.std.specs.Option.{option_map}
 use Rattle.std.specs.FinMap as fin
@@ -13,9 +13,8 @@ use Rattle.causal_name.proofs.Lemmas.DetOrder.{dets_total, exact_dets, det_ties,
 use Rattle.causal_trace.specs.declared.entry.Entry.{Entry}
 use Rattle.causal_trace.specs.declared.entry.Entry.TheVariants.{Stable}
 use Rattle.causal_trace.specs.Past.{list_has, is_stable}
-use Rattle.causal_log.specs.declared.known.Known.{Known}
-use Rattle.causal_log.specs.Knowledge.{unknown, is_carried, as_stable}
-use Rattle.causal_log.specs.Logs.{LogMap, known_of, item_of, is_in_batch, batch_items, stable_in, after_mark, mark, unstable_in}
+use Rattle.causal_log.specs.Knowledge.{is_carried, as_stable}
+use Rattle.causal_log.specs.Logs.{LogMap, known_of, item_of, is_in_batch, batch_items, stable_in, after_mark, unstable_in}
 use Rattle.causal_log.specs.Stores as store
 use Rattle.causal_log.proofs.Lemmas.MessageItems.{carried, swap_first}
 use Rattle.causal_log.proofs.Lemmas.Searches.{any_kept, any_logged, passes}
@@ -68,17 +67,9 @@ module _ (log : LogMap) (det d : Det) where
   pub marked_holder : (q : ℕ) → log_knows_holder d q (after_mark log det) ≡ log_knows_holder d q log
   marked_holder q = grind (arith, marked_get)
 
-  -- what is known to be stable after a mark was marked, or was known before
-  pub marked_mark : log_knows_stable d (after_mark log det) ≡ true → (same_det d det ≡ true) ⊎ (log_knows_stable d log ≡ true)
-  marked_mark h = grind (arith, marked_get)
-
-  -- a logged determinant is known to be stable after it is marked
-  pub marked_new : same_det d det ≡ true → has_entry d log ≡ true → log_knows_stable d (after_mark log det) ≡ true
-  marked_new same there = grind (arith, marked_get, false≢true)
-
-  -- what was known to be stable is so after a mark
-  pub marked_old : log_knows_stable d log ≡ true → log_knows_stable d (after_mark log det) ≡ true
-  marked_old h = grind (arith, marked_get, false≢true)
+  -- what is known to be stable after a mark was known before, or is logged and was marked
+  pub marked_stable : log_knows_stable d (after_mark log det) ≡ (log_knows_stable d log || (same_det d det && has_entry d log))
+  marked_stable = grind (arith, marked_get, false≢true)
 
 -- a log without some determinants
 module _ (listed : List Det) (log : LogMap) (d : Det) where
@@ -96,10 +87,6 @@ module _ (listed : List Det) (log : LogMap) (d : Det) where
   -- a log without some determinants has the marks of the others
   pub without_stable : log_knows_stable d (without_dets listed log) ≡ (not (list_has listed d) && log_knows_stable d log)
   without_stable = grind (arith, without_get)
-
-  -- a log without some determinants has no new marks
-  pub without_mark : log_knows_stable d (without_dets listed log) ≡ true → log_knows_stable d log ≡ true
-  without_mark h = grind (arith, without_get, false≢true)
 
 -- the stable set of a past has exactly the determinants of its stable entries
 pub stable_has : (past : List Entry) (d : Det) → store.set_has (stable_set past) d ≡ is_stable past d

@@ -1,12 +1,10 @@
 -- An up process knows what its present lane contributed: a proof entry by entry.
-use Rattle.std.proofs.Common.{arith, ℕ, zero, suc, ◌≡◌, inl, inr, Bool, true, false, ◌&&◌, ◌||◌, not, List, [], ◌∷◌, length, take, slice_get, slice_set, Option, Some, None, is_some, refl, sym, ap, subst, ◌∙◌}
+use Rattle.std.proofs.Common.{arith, ℕ, zero, suc, ◌≡◌, inl, inr, Bool, true, false, ◌&&◌, ◌||◌, not, List, [], ◌∷◌, take, slice_get, slice_set, Option, Some, None, is_some, refl, sym, ap, subst, ◌∙◌}
 use Rattle.std.specs.Prelude.{◌==◌, ◌⊎◌, ◌↔◌}
 use Rattle.std.specs.List.{list_any}
-use Rattle.std.specs.Option.{option_map, option_and_then}
+use Rattle.std.specs.Option.{option_map}
 use Rattle.std.specs.FinMap as fin
-use Rattle.std.proofs.lemmas.List.{set_past}
-use Rattle.std.proofs.lemmas.Option.{slice_get_past}
-use Rattle.std.proofs.lemmas.Bool.{false≢true, both_ways, cases_lt}
+use Rattle.std.proofs.lemmas.Bool.{false≢true, both_ways}
 use Rattle.std.proofs.lemmas.Bool.Decides.{eqb_tells}
 use Rattle.causal_name.specs.declared.Pid.{Pid}
 use Rattle.causal_name.specs.declared.MsgName.{MsgName}
@@ -15,12 +13,12 @@ use Rattle.causal_trace.specs.declared.entry.Entry.{Entry}
 use Rattle.causal_trace.specs.declared.entry.Entry.TheVariants.{Send, Deliver, Stable, Crash, Restart, Forget}
 use Rattle.causal_trace.specs.Past.{list_has, message_at, det_from}
 use Rattle.causal_log.specs.Logs.{LogMap, after_mark}
-use Rattle.causal_protocol.specs.Memory.{Memory, Memories, present_at, update_at, new_memory, log_after_delivery, batch_of}
+use Rattle.causal_protocol.specs.Memory.{Memory, Memories, present_at, new_memory, log_after_delivery, batch_of}
 use Rattle.causal_protocol.specs.Gathering.{restart_log, without_dets}
 use Rattle.causal_protocol.specs.Run.{Run, memories, memories_of, stable_of, memories_after, older_writers}
 use Rattle.causal_protocol.specs.MemoryQueries.{log_at, log_knows_holder, log_knows_stable}
 use Rattle.causal_protocol.specs.Contributions.{ContributesHolder, ContributesMark, HoldersAreContributed, IsContributed, MarksAreContributed, erases_knowledge, run_before, writers_before}
-use Rattle.causal_protocol.proofs.Places.{at_set, log_first, log_here, set_elsewhere}
+use Rattle.causal_protocol.proofs.Places.{log_first, log_here, set_elsewhere, put_here, changed_here}
 use Rattle.causal_protocol.proofs.Lemmas.LogMembers.{none_holds, none_stable}
 use Rattle.causal_protocol.proofs.LearnedLogs
 use Rattle.causal_protocol.proofs.Choices
@@ -33,13 +31,6 @@ pub record Grows (Given : Type 0) (ended old new : Bool) : Type 0 where
 
 steady : (Given : Type 0) (old new : Bool) → (Given → ⊥) → new ≡ old → Grows Given false old new
 steady Given old new nothing same = record { found = λ h. inr (refl, sym same ∙ h); fresh = λ g. absurd (nothing g); kept = λ _ h. same ∙ h }
-
--- the memory at an index after it is changed or set
-put_here : (ms : Memories) (w : ℕ) (x : Option Memory) → ((present_at (slice_set ms w x) w ≡ None) × (present_at ms w ≡ None)) ⊎ (present_at (slice_set ms w x) w ≡ x)
-put_here ms w x = grind (arith, cases_lt w (length ms), at_set ms w x w, eqb_tells w w, set_past ms w x, slice_get_past ms w)
-
-changed_here : (g : Memory → Memory) (ms : Memories) (w p : ℕ) → w ≡ p → present_at (update_at g ms w) p ≡ option_map g (present_at ms p)
-changed_here g ms w p is = grind (arith, put_here ms w (option_map g (present_at ms w)))
 
 module _ (p : ℕ) (tells : LogMap → Bool) where
   -- the fact in p's log before and after an entry; p is up after it only if it was up before, or the entry ends the
@@ -163,7 +154,7 @@ mark_facts p d = record {
   writer = λ r by det g. g.0;
   restarter = λ r by who listed g. g.0;
   delivered = λ r by to send rsn listed x m is sent. grind (arith, LearnedLogs.gained_mark);
-  written = λ r w det m is here. grind (arith, log_here (memories_of r) p m here, Choices.marked_mark, Choices.marked_entry m.log det d, Choices.marked_new, Choices.marked_old);
+  written = λ r w det m is here. grind (arith, log_here (memories_of r) p m here, Choices.marked_stable m.log det d);
   restarted = λ r by who listed old is. grind (arith, LearnedLogs.told_marks_of, Choices.stable_has r.recording.past d);
   left = λ listed log. Choices.without_stable listed log d;
 }

@@ -31,11 +31,9 @@ pub item_of_holder : (d : Det) (q : ℕ) (items : List Item) → item_holder d q
 item_of_holder d q [] h = absurd (false≢true h)
 item_of_holder d q (item ∷ items) h = grind (arith, item_of_holder d q items)
 
-pub alone_holds : (p q : ℕ) → set.contains (set.insert (set.empty {R = nat_cmp}) p) q ≡ true → q ≡ p
-alone_holds p q h = grind (arith, set.contains-insert nat_cmp_total set.empty p q, nat_ties q p, set.contains-empty nat_cmp q)
-
-pub itself_holds : (p : ℕ) → set.contains (set.insert (set.empty {R = nat_cmp}) p) p ≡ true
-itself_holds p = set.contains-insert nat_cmp_total set.empty p p ∙ or_left _ _ (sym (nat_ties p p) ∙ eq-eqb p p refl)
+-- the set of one number
+alone_has : (p q : ℕ) → set.contains (set.insert (set.empty {R = nat_cmp}) p) q ≡ (q == p)
+alone_has p q = grind (arith, set.contains-insert nat_cmp_total set.empty p q, nat_ties q p, set.contains-empty nat_cmp q)
 
 -- what a delivery adds to a log
 module _ (batch : List Item) (own : Det) (log : LogMap) (d : Det) where
@@ -50,7 +48,8 @@ module _ (batch : List Item) (own : Det) (log : LogMap) (d : Det) where
   abbrev tells_item : ℕ → Item → Bool
   tells_item q item = same_det d item.det && (set.contains item.holders q || (q == own.source.0 || q == own.dest.0))
 
-  gained_known : (q : ℕ) → log_knows_holder d q (log_after_delivery batch own log) ≡ ((log_knows_holder d q log || list_any (tells_item q) batch) || ((same_det d own && set.contains (held_by own.dest).holders q) || false))
+  -- the known holders after a delivery: those before it, those that an item tells, and the receiver
+  pub gained_known : (q : ℕ) → log_knows_holder d q (log_after_delivery batch own log) ≡ ((log_knows_holder d q log || list_any (tells_item q) batch) || ((same_det d own && set.contains (held_by own.dest).holders q) || false))
   gained_known q = grind (arith, known_all (λ k. set.contains k.holders q) (holds_either q) ((own, held_by own.dest) ∷ []) absorbs d, absorbed_holders batch own.source own.dest log d q)
 
   -- an item makes q a holder of d if it names q, or if it is of d and q is an end of its message
@@ -62,19 +61,15 @@ module _ (batch : List Item) (own : Det) (log : LogMap) (d : Det) where
   -- item's message, or the receiver of the delivery
   pub gained_holder : (q : ℕ) → log_knows_holder d q (log_after_delivery batch own log) ≡ true
       → (log_knows_holder d q log ≡ true) ⊎ ((item_holder d q batch ≡ true) ⊎ (((has_item d batch ≡ true) × ((q ≡ own.source.0) ⊎ (q ≡ own.dest.0))) ⊎ ((d ≡ own) × (q ≡ own.dest.0))))
-  gained_holder q h = grind (arith, or_cases, gained_known q, item_tells q batch, and_parts, eqb-true, same_is, alone_holds, false≢true)
-
-  -- holders known before a delivery are known after it
-  pub gained_old : (q : ℕ) → log_knows_holder d q log ≡ true → log_knows_holder d q (log_after_delivery batch own log) ≡ true
-  gained_old q h = gained_known q ∙ or_left _ _ (or_left _ _ h)
+  gained_holder q h = grind (arith, or_cases, gained_known q, item_tells q batch, and_parts, eqb-true, same_is, alone_has, false≢true)
 
   -- after a delivery the receiver is a known holder of what it brings
   pub gained_new : (same_det d own || has_item d batch) ≡ true → log_knows_holder d own.dest.0 (log_after_delivery batch own log) ≡ true
-  gained_new h = grind (arith, gained_known own.dest.0, or_cases (same_det d own) (has_item d batch) h, itself_holds own.dest.0, item_tells own.dest.0 batch, eq-eqb)
+  gained_new h = grind (arith, gained_known own.dest.0, or_cases (same_det d own) (has_item d batch) h, alone_has own.dest.0 own.dest.0, item_tells own.dest.0 batch, eq-eqb)
 
   -- after a delivery each holder that the message names is known
   pub gained_told : (q : ℕ) → MessageImpliesHolder batch own d q → log_knows_holder d q (log_after_delivery batch own log) ≡ true
-  gained_told q h = grind (arith, gained_known q, item_tells q batch, eq-eqb, itself_holds own.dest.0, same_itself d)
+  gained_told q h = grind (arith, gained_known q, item_tells q batch, eq-eqb, alone_has own.dest.0 own.dest.0, same_itself d)
 
   -- a delivery changes no mark
   pub gained_mark : log_knows_stable d (log_after_delivery batch own log) ≡ log_knows_stable d log
@@ -173,7 +168,7 @@ module _ (ms : Memories) (stored : DetSet) (p : Pid) (d : Det) where
   pub gathered_holder : (q : ℕ) → log_knows_holder d q gathered ≡ true → (q ≡ p.0) ⊎ ((r : ℕ) × (r < length ms) × (knows_holder ms r d q ≡ true))
   gathered_holder q h =
       let after_union = united_found (log_knows_holder d q) (λ log other. united_holders log other d q) (none_holds d q) ms fin.empty in
-      grind (arith, gathered_tells (λ k. set.contains k.holders q) (holds_either q), after_union, none_holds d q, alone_holds p.0 q)
+      grind (arith, gathered_tells (λ k. set.contains k.holders q) (holds_either q), after_union, none_holds d q, alone_has p.0 q, eqb-true)
 
   -- holders that an up process knew are known in the restart's log
   pub gathered_known : (r q : ℕ) → knows_holder ms r d q ≡ true → log_knows_holder d q gathered ≡ true
@@ -192,7 +187,7 @@ module _ (ms : Memories) (stored : DetSet) (p : Pid) (d : Det) where
 
   -- p is a known holder of all that the restart's log has
   pub gathered_itself : has_entry d gathered ≡ true → log_knows_holder d p.0 gathered ≡ true
-  gathered_itself h = grind (arith, gathered_tells (λ k. set.contains k.holders p.0) (holds_either p.0), gathered_entry, itself_holds p.0)
+  gathered_itself h = grind (arith, gathered_tells (λ k. set.contains k.holders p.0) (holds_either p.0), gathered_entry, alone_has p.0 p.0, eq-eqb p.0 p.0 refl)
 
   -- what the restart's log knows to be stable is stored, or an up process knew it
   pub gathered_mark : log_knows_stable d gathered ≡ true → (store.set_has stored d ≡ true) ⊎ ((r : ℕ) × (r < length ms) × (knows_stable ms r d ≡ true))
@@ -201,6 +196,6 @@ module _ (ms : Memories) (stored : DetSet) (p : Pid) (d : Det) where
       grind (arith, gathered_tells (λ k. k.stable) stable_either, after_union, none_stable d)
 
 -- known holders and marks after a delivery and after a restart
-pub ruleset told_holders_of = (gained_holder, gained_told, gained_old, gathered_holder, gathered_itself, gathered_known, keys_have, entry_of_holder)
+pub ruleset told_holders_of = (gained_holder, gained_told, gained_known, gathered_holder, gathered_itself, gathered_known, keys_have, entry_of_holder)
 
 pub ruleset told_marks_of = (gained_mark, gathered_mark, gathered_marks, stored_marks)

@@ -2,7 +2,7 @@
 use Rattle.std.proofs.Common.{ℕ, ◌≡◌, ◌<◌, true, false, cond, List, [], ◌∷◌, ◌++◌, length, get_or, replicate, slice_get, slice_set, Option, Some, None, is_none, sym, ap, arith}
 use Rattle.std.specs.Prelude.{◌==◌, ◌⊎◌}
 use Rattle.std.specs.Option.{option_map, option_map_or, option_and_then}
-use Rattle.std.proofs.lemmas.List.{length-set, get_or-set_same, get_or-set_other, get_or_append_left, get_or_push, get_or-replicate, length-replicate, length_push}
+use Rattle.std.proofs.lemmas.List.{set_past, length-set, get_or-set_same, get_or-set_other, get_or_append_left, get_or_push, get_or-replicate, length-replicate, length_push}
 use Rattle.std.proofs.lemmas.Option.{slice_get-get_or, slice_get_cases, slice_get_past}
 use Rattle.std.proofs.lemmas.Bool.{cases_lt}
 use Rattle.std.proofs.lemmas.Bool.Decides.{eqb_tells}
@@ -24,6 +24,13 @@ set_elsewhere xs w x p other = ap (option_and_then (λ z. z)) (set_other xs w x 
 pub at_set : {X : Type 0} (xs : List (Option X)) (w : ℕ) (x : Option X) (p : ℕ) → w < length xs → present_at (slice_set xs w x) p ≡ cond (w == p) x (present_at xs p)
 at_set xs w x p low = grind (arith, eqb_tells w p, slice_get_cases (slice_set xs w x) w, length-set xs w x, get_or-set_same xs w x, set_other xs w x p)
 
+-- the memory at an index after it is changed or set
+pub put_here : (ms : Memories) (w : ℕ) (x : Option Memory) → ((present_at (slice_set ms w x) w ≡ None) × (present_at ms w ≡ None)) ⊎ (present_at (slice_set ms w x) w ≡ x)
+put_here ms w x = grind (arith, cases_lt w (length ms), at_set ms w x w, eqb_tells w w, set_past ms w x, slice_get_past ms w)
+
+pub changed_here : (g : Memory → Memory) (ms : Memories) (w p : ℕ) → w ≡ p → present_at (update_at g ms w) p ≡ option_map g (present_at ms p)
+changed_here g ms w p is = grind (arith, put_here ms w (option_map g (present_at ms w)))
+
 -- an index at which there is a value is within the list
 pub at_within : {X : Type 0} (xs : List (Option X)) (p : ℕ) (x : X) → present_at xs p ≡ Some x → p < length xs
 at_within xs p x h = grind (arith, slice_get_cases xs p)
@@ -38,11 +45,6 @@ sent_in o = option_map_or (λ m. m.sent) o []
 pub log_here : (ms : Memories) (p : ℕ) (m : Memory) → present_at ms p ≡ Some m → log_at ms p ≡ m.log
 unfolding log_at
 log_here ms p m here = ap (λ o. option_map_or (λ m. m.log) o fin.empty) here
-
--- the log of a down process is empty
-pub log_none : (ms : Memories) (p : ℕ) → present_at ms p ≡ None → log_at ms p ≡ fin.empty
-unfolding log_at
-log_none ms p none = ap (λ o. option_map_or (λ m. m.log) o fin.empty) none
 
 pub messages_here : (ms : Memories) (p : ℕ) (m : Memory) → present_at ms p ≡ Some m → messages ms p ≡ m.sent
 unfolding messages
@@ -86,7 +88,3 @@ changed_cases g ms w m here p = grind (arith, set_cases ms w (option_map g (pres
 -- changing a memory leaves the set of up processes unchanged
 pub changed_state : (g : Memory → Memory) (ms : Memories) (w : ℕ) (m : Memory) → present_at ms w ≡ Some m → (p : ℕ) → is_none (present_at (update_at g ms w) p) ≡ is_none (present_at ms p)
 changed_state g ms w m here p = grind (arith, at_set, at_within, eqb_tells)
-
--- after one memory is set, its process is up or down accordingly, and each other as before
-pub set_state : (ms : Memories) (w : ℕ) (x : Option Memory) (p : ℕ) → w < length ms → is_none (present_at (slice_set ms w x) p) ≡ cond (w == p) (is_none x) (is_none (present_at ms p))
-set_state ms w x p low = grind (arith, at_set ms w x p low)

@@ -7,7 +7,7 @@ use Rattle.std.proofs.lemmas.List.Sums.{sum_by-cons}
 use Rattle.causal_name.specs.declared.Pid.{Pid}
 use Rattle.causal_name.specs.declared.MsgName.{MsgName}
 use Rattle.causal_name.specs.declared.Det.{Det}
-use Rattle.causal_name.specs.Names.{same_pid, same_message, message_of}
+use Rattle.causal_name.specs.Names.{same_pid, message_of}
 use Rattle.causal_name.specs.Sets.{count_below}
 use Rattle.causal_trace.specs.declared.entry.Entry.{Entry}
 use Rattle.causal_trace.specs.Past.{list_has, is_down, logs, is_stable}
@@ -18,7 +18,7 @@ use Rattle.causal_protocol.specs.declared.request.CoreFault.{CoreFault}
 use Rattle.causal_protocol.specs.Memory.{SentMessage, Memory, Memories, present_at, sent_message_of}
 use Rattle.causal_protocol.specs.Gathering.{stable_set}
 use Rattle.causal_protocol.specs.Naming.{min_det, next_det, named_for, sent_message_for}
-use Rattle.causal_protocol.specs.Refusals.{fault_if, fault_unless_named, first_fault_in}
+use Rattle.causal_protocol.specs.Refusals.{fault_unless_named, first_fault_in}
 use Rattle.causal_protocol.specs.MemoryQueries.{messages}
 use Rattle.causal_protocol.specs.Invariant.{logs_or_stable}
 use Rattle.causal_protocol.specs.Runs.{IsInvariantState}

@@ -1,6 +1,6 @@
 -- Each kind of entry, with what it does to the memories, is a legal step of the general protocol, and the memories
 -- match it again.
-use Rattle.std.proofs.Common.{ℕ, ◌≡◌, ◌<◌, inl, inr, Bool, true, false, not, ◌&&◌, ◌||◌, List, [], ◌∷◌, length, slice_get, slice_set, Option, Some, None, is_none, refl, sym, ap, subst, ◌∙◌, arith}
+use Rattle.std.proofs.Common.{ℕ, ◌≡◌, ◌<◌, inl, inr, Bool, true, false, ◌||◌, List, [], ◌∷◌, length, slice_get, slice_set, Option, Some, None, is_none, refl, sym, ap, subst, ◌∙◌, arith}
 use Rattle.std.specs.Prelude.{◌==◌, ◌⊎◌}
 use Rattle.std.specs.Option.{option_map, option_and_then}
 use Rattle.std.specs.FinMap as fin
@@ -18,16 +18,16 @@ use Rattle.causal_trace.specs.declared.entry.Entry.TheVariants.{Send, Deliver, S
 use Rattle.causal_trace.specs.Past.{list_has, is_down, entry_at, message_sent, message_at, det_from, logs, is_stable}
 use Rattle.causal_holders.proofs.Lemmas.MemberCounts.{len_counted}
 use Rattle.causal_log.specs.Logs.{LogMap, known_of, batch_items, after_mark}
-use Rattle.causal_steps.specs.Transit.{TransitParcel, IsInTransit, IsCarried, Survives}
-use Rattle.causal_steps.specs.Steps.{IsSendStep, IsDeliverStep, IsCrashStep, IsRestartStep, IsStableStep, IsForgetStep, IsStep, HasNothingNew, sends, delivers, crashes, restarts, writes, forgets}
+use Rattle.causal_steps.specs.Transit.{TransitParcel, IsInTransit, IsCarried}
+use Rattle.causal_steps.specs.Steps.{IsStep, HasNothingNew, sends, delivers, crashes, restarts, writes, forgets}
 use Rattle.causal_steps.specs.Reachable.{next_state}
 use Rattle.causal_steps.proofs.Lemmas.Positions.{at_newest, at_older, message_below}
 use Rattle.causal_protocol.specs.Memory.{SentMessage, Memory, Memories, present_at, update_at, new_memory, with_sent, with_received, with_log}
 use Rattle.causal_protocol.specs.Gathering.{stable_set, restart_log, without_dets}
-use Rattle.causal_protocol.specs.MemoryQueries.{log_at, messages, has_entry, log_knows_holder, log_knows_stable, memory_logs, knows_holder, knows_stable, has_item, item_holder, parcel_of, volatile_of}
+use Rattle.causal_protocol.specs.MemoryQueries.{log_at, messages, has_entry, log_knows_holder, log_knows_stable, memory_logs, knows_stable, has_item, parcel_of, volatile_of}
 use Rattle.causal_protocol.specs.Invariant.{survives, logs_or_stable}
 use Rattle.causal_protocol.specs.Runs.{MemoriesMatchEntries, IsInvariantState}
-use Rattle.causal_protocol.proofs.Places.{set_cases, changed_cases, changed_state, set_state, kept_more, log_here, log_none}
+use Rattle.causal_protocol.proofs.Places.{set_cases, changed_cases, changed_state, at_set, kept_more, log_here}
 use Rattle.causal_protocol.proofs.LearnedLogs
 use Rattle.causal_protocol.proofs.Choices
 use Rattle.causal_protocol.proofs.Facts.{survives_log, survives_stable, survives_found, message_of_parcel, parcel_of_message, keeps_within, invariant, found_up, senders_have_carried}
@@ -78,52 +78,43 @@ module _ (n f : ℕ) (past : List Entry) (ms : Memories) (from to : Pid) (m : Me
   abbrev new_message : SentMessage
   new_message = record { to = to; send = length past; batch = batch_items f m.log }
 
-  abbrev sent_entry : Entry
-  sent_entry = Send from to (length m.sent)
-
   there : log_at ms from.0 ≡ m.log
   there = log_here ms from.0 m here
 
   sender_logs : (d : Det) → has_item d (batch_items f m.log) ≡ true → logs past from.0 d ≡ true
   sender_logs d h = sym (s.fit.logged from.0 d low) ∙ ap (has_entry d) there ∙ Choices.chosen_logged f m.log d h
 
-  sender_knows : (d : Det) (q : ℕ) → (item_holder d q (batch_items f m.log) || (has_item d (batch_items f m.log) && q == from.0)) ≡ true → (knows_holder ms from.0 d q ≡ true) × (has_item d (batch_items f m.log) ≡ true)
-  sender_knows d q h =
-      grind (arith, there, or_cases, Choices.chosen_known f m.log d q, LearnedLogs.item_of_holder d q, and_parts, eqb-true, sender_logs d, (invariant n f past ms s).knows_itself from.0 d low)
-
-  one_new : (t : TransitParcel) → IsInTransit (volatile_of sent_memories) t → IsInTransit (volatile_of ms) t ⊎ (t ≡ parcel_of from.0 new_message)
-  one_new t in_transit =
-      let found = message_of_parcel sent_memories t in_transit in
-      grind (arith, found.3, found.4, changed_cases sent_to ms from.0 m here found.0, kept_more, parcel_of_message ms found.0 found.1 found.2)
-
   -- the state after a send is sound
   pub send_sound : IsInvariantState n f (Send from to (length m.sent) ∷ past) (update_at (with_sent f to (length past)) ms from.0)
   send_sound =
       record {
         fit = record {
-        count = length-set ms from.0 (option_map sent_to (present_at ms from.0)) ∙ s.fit.count;
-        state = λ p small. changed_state sent_to ms from.0 m here p ∙ s.fit.state p small;
-        placed = λ p ssn k h. grind (arith, changed_cases sent_to ms from.0 m here p, kept_more, message_older sent_entry past k.send, s.fit.placed p ssn k, message_newest sent_entry past k.send);
-        logged = λ p d small. grind (arith, changed_cases sent_to ms from.0 m here p, s.fit.logged p d small);
+          count = length-set ms from.0 (option_map sent_to (present_at ms from.0)) ∙ s.fit.count;
+          state = λ p small. changed_state sent_to ms from.0 m here p ∙ s.fit.state p small;
+          placed = λ p ssn k h. grind (arith, changed_cases sent_to ms from.0 m here p, kept_more, message_older (Send from to (length m.sent)) past k.send, s.fit.placed p ssn k, message_newest (Send from to (length m.sent)) past k.send);
+          logged = λ p d small. grind (arith, changed_cases sent_to ms from.0 m here p, s.fit.logged p d small);
         };
-        reached = next_state past (sent_entry ∷ past) (volatile_of ms) (volatile_of sent_memories) s.reached (sends from to (length m.sent) (parcel_of from.0 new_message) (record {
-        of_log = record {
-          process = low;
-          up = is_up n past ms from.0 m s.fit low here;
-          from = refl;
-          logged = sender_logs;
-          known_holders = sender_knows;
-          known_stable = λ d h. absurd (false≢true h);
-          names_sender = λ d h. or_right _ _ (and_from _ _ h (eq-eqb from.0 from.0 refl));
-        };
-        position = refl;
-        left_out = λ d h. elim (Choices.chosen_left f m.log d (ap (has_entry d) (sym there) ∙ s.fit.logged from.0 d low ∙ h)) [
-          | inl goes ↦ inl goes
-          | inr (inl mark) ↦ inr (inl (ap (log_knows_stable d) there ∙ mark))
-          | inr (inr many) ↦ inr (inr (subst (λ x. f < x) (len_counted n (known_of (log_at ms from.0) d).holders (λ q known. ((invariant n f past ms s).known_logged from.0 d q low known).0)) (subst (λ log. f < set.len (known_of log d).holders) (sym there) many)))
-        ];
-        same_knowledge = record { holders = λ p d q. grind (arith, changed_cases sent_to ms from.0 m here p); stable = λ p d h. grind (arith, changed_cases sent_to ms from.0 m here p) };
-        one_new = one_new;
+        reached = next_state past (Send from to (length m.sent) ∷ past) (volatile_of ms) (volatile_of sent_memories) s.reached (sends from to (length m.sent) (parcel_of from.0 new_message) (record {
+          of_log = record {
+            process = low;
+            up = is_up n past ms from.0 m s.fit low here;
+            from = refl;
+            logged = sender_logs;
+            known_holders = λ d q h.
+                grind (arith, there, or_cases, Choices.chosen_known f m.log d q, LearnedLogs.item_of_holder d q, and_parts, eqb-true, sender_logs d, (invariant n f past ms s).knows_itself from.0 d low);
+            known_stable = λ d h. absurd (false≢true h);
+            names_sender = λ d h. or_right _ _ (and_from _ _ h (eq-eqb from.0 from.0 refl));
+          };
+          position = refl;
+          left_out = λ d h. elim (Choices.chosen_left f m.log d (ap (has_entry d) (sym there) ∙ s.fit.logged from.0 d low ∙ h)) [
+            | inl goes ↦ inl goes
+            | inr (inl mark) ↦ inr (inl (ap (log_knows_stable d) there ∙ mark))
+            | inr (inr many) ↦ inr (inr (subst (λ x. f < x) (len_counted n (known_of (log_at ms from.0) d).holders (λ q known. ((invariant n f past ms s).known_logged from.0 d q low known).0)) (subst (λ log. f < set.len (known_of log d).holders) (sym there) many)))
+          ];
+          same_knowledge = record { holders = λ p d q. grind (arith, changed_cases sent_to ms from.0 m here p); stable = λ p d h. grind (arith, changed_cases sent_to ms from.0 m here p) };
+          one_new = λ t in_transit.
+              let found = message_of_parcel sent_memories t in_transit in
+              grind (arith, found.3, found.4, changed_cases sent_to ms from.0 m here found.0, kept_more, parcel_of_message ms found.0 found.1 found.2);
         }));
       }
 
@@ -159,7 +150,7 @@ module _ (n f : ℕ) (past : List Entry) (ms : Memories) (to : Pid) (rsn : ℕ) 
         new_holders = λ p d q h.
             grind (arith, changed_cases receiving ms to.0 m here p, LearnedLogs.gained_holder k.batch own m.log d q, LearnedLogs.item_of_holder d q k.batch, lists d, same_itself d, eq-eqb q asked.source.0);
         knows_itself = λ d h. grind (arith, changed_cases, LearnedLogs.gained_new, both_ways, eq-eqb to.0 to.0 refl);
-        keeps_holders = λ p d q h. grind (arith, changed_cases receiving ms to.0 m here p, LearnedLogs.gained_old);
+        keeps_holders = λ p d q h. grind (arith, changed_cases receiving ms to.0 m here p, LearnedLogs.gained_known k.batch own m.log d q);
         new_stable = λ p d h. grind (arith, changed_cases receiving ms to.0 m here p, LearnedLogs.gained_mark);
         nothing_new = quiet;
       }))
@@ -178,7 +169,7 @@ module _ (n f : ℕ) (past : List Entry) (ms : Memories) (p : Pid) (m : Memory) 
       (λ quiet. writes det (record {
         survived = inr (inl (p.0, low, sym (s.fit.logged p.0 det low) ∙ logged));
         same_holders = λ x d q. grind (arith, changed_cases marking ms p.0 m here x, Choices.marked_holder m.log det d q);
-        new_stable = λ x d h. grind (arith, changed_cases marking ms p.0 m here x, Choices.marked_mark);
+        new_stable = λ x d h. grind (arith, changed_cases marking ms p.0 m here x, Choices.marked_stable m.log det d);
         nothing_new = quiet;
       }))
       (λ x small. changed_state marking ms p.0 m here x ∙ s.fit.state x small) (λ x ssn k h. grind (arith, changed_cases marking ms p.0 m here x))
@@ -197,7 +188,7 @@ module _ (n f : ℕ) (past : List Entry) (ms : Memories) (p : Pid) (m : Memory) 
         process = low;
         known_stable = known;
         holders = λ x d q. grind (arith, changed_cases forgetting ms p.0 m here x, Choices.without_holder listed m.log d q);
-        new_stable = λ x d h. grind (arith, changed_cases forgetting ms p.0 m here x, Choices.without_mark);
+        new_stable = λ x d h. grind (arith, changed_cases forgetting ms p.0 m here x, Choices.without_stable listed m.log d);
         nothing_new = quiet;
       }))
       (λ x small. changed_state forgetting ms p.0 m here x ∙ s.fit.state x small) (λ x ssn k h. grind (arith, changed_cases forgetting ms p.0 m here x))
@@ -218,7 +209,7 @@ module _ (n f : ℕ) (past : List Entry) (ms : Memories) (who : Pid) (low : who.
         new_stable = λ p d h. grind (arith, after p, none_stable d, false≢true);
         nothing_new = quiet;
       }))
-      (λ p small. grind (arith, set_state ms who.0 None p (omega (arith, low, s.fit.count)), s.fit.state p small)) (λ p ssn k h. grind (arith, after p))
+      (λ p small. grind (arith, at_set ms who.0 None p (omega (arith, low, s.fit.count)), s.fit.state p small)) (λ p ssn k h. grind (arith, after p))
       (λ p d small. grind (arith, after p, none_entry d, s.fit.logged p d small))
 
 -- a restart gathers what survives
@@ -249,7 +240,8 @@ module _ (n f : ℕ) (past : List Entry) (ms : Memories) (who : Pid) (listed : L
   lists_survivors d = lists d ∙ gathered_survivors n f past ms who s d
 
   nothing_there : (tells : LogMap → Bool) → tells fin.empty ≡ false → (p : ℕ) → who.0 ≡ p → tells (log_at ms p) ≡ false
-  nothing_there tells lacks p is = ap tells (log_none ms p (ap (present_at ms) (sym is) ∙ down)) ∙ lacks
+  unfolding log_at
+  nothing_there tells lacks p is = grind arith
 
   restarted_kept : (p ssn : ℕ) (x : SentMessage) → slice_get (messages restarted p) ssn ≡ Some x → slice_get (messages ms p) ssn ≡ Some x
   restarted_kept p ssn x h = grind (arith, set_cases ms who.0 (Some (new_memory gathered)) p bound, bound)
@@ -281,5 +273,5 @@ module _ (n f : ℕ) (past : List Entry) (ms : Memories) (who : Pid) (listed : L
             grind (arith, set_cases ms who.0 (Some (new_memory gathered)) p bound, marked, Choices.stable_has past d, (invariant n f past ms s).known_stable_true, under n f past ms who s);
         nothing_new = quiet;
       }))
-      (λ p small. grind (arith, set_state ms who.0 (Some (new_memory gathered)) p bound, s.fit.state p small)) restarted_kept
+      (λ p small. grind (arith, at_set ms who.0 (Some (new_memory gathered)) p bound, s.fit.state p small)) restarted_kept
       (λ p d small. grind (arith, set_cases ms who.0 (Some (new_memory gathered)) p bound, lists d, nothing_there (has_entry d) (none_entry d) p, s.fit.logged p d small))

@@ -1,9 +1,9 @@
 -- Each legal step preserves the invariant.
-use Rattle.std.proofs.Common.{ℕ, zero, suc, ◌≡◌, ◌+◌, ◌<◌, inl, inr, true, not, ◌&&◌, ◌||◌, nat_lt, List, [], ◌∷◌, ◌++◌, length, map, take, drop, replicate, slice_set, Option, Some, None, is_none, refl, sym, ap, subst, ◌∙◌, arith, ◌≤◌, slice_get}
+use Rattle.std.proofs.Common.{ℕ, zero, suc, ◌≡◌, ◌+◌, ◌<◌, true, not, ◌&&◌, ◌||◌, nat_lt, List, [], ◌∷◌, ◌++◌, length, map, take, drop, replicate, Option, Some, None, is_none, refl, sym, ap, subst, ◌∙◌, arith, ◌≤◌}
 use Rattle.std.specs.List.{filter_map}
 use Rattle.std.specs.Option.{option_map, option_map_or}
 use Rattle.std.proofs.lemmas.List.{length_push, length-replicate}
-use Rattle.std.proofs.lemmas.Bool.{false≢true, or_cases, or_left, or_right}
+use Rattle.std.proofs.lemmas.Bool.{false≢true, or_left}
 use Rattle.std.proofs.lemmas.Bool.Decides.{eqb_tells}
 use Rattle.causal_name.specs.declared.Pid.{Pid}
 use Rattle.causal_name.specs.declared.MsgName.{MsgName}
@@ -11,8 +11,8 @@ use Rattle.causal_name.specs.declared.Det.{Det}
 use Rattle.causal_name.specs.Names.{same_det, message_of}
 use Rattle.causal_name.proofs.Lemmas.DetOrder.{same_itself}
 use Rattle.causal_trace.specs.declared.entry.Entry.{Entry}
-use Rattle.causal_trace.specs.declared.entry.Entry.TheVariants.{Send, Deliver, Stable, Crash, Restart}
-use Rattle.causal_trace.specs.Past.{list_has, message_at}
+use Rattle.causal_trace.specs.declared.entry.Entry.TheVariants.{Send, Stable, Crash, Restart}
+use Rattle.causal_trace.specs.Past.{list_has}
 use Rattle.causal_log.specs.Logs.{after_mark, dets_of}
 use Rattle.causal_protocol.specs.declared.request.CoreFault.{CoreFault}
 use Rattle.causal_protocol.specs.declared.request.CoreFault.TheVariants as Faults
@@ -22,29 +22,26 @@ use Rattle.causal_protocol.specs.declared.request.Reply.{Reply}
 use Rattle.causal_protocol.specs.declared.request.Reply.TheVariants as Replies
 use Rattle.causal_protocol.specs.Memory.{SentMessage, Memory, Memories, present_at, update_at, new_memory, with_sent, with_received, with_log, sent_message_of, batch_of}
 use Rattle.causal_protocol.specs.Gathering.{stable_set, restart_log}
-use Rattle.causal_protocol.specs.Run.{Run, after_receive, memories, memories_of, stable_of}
-use Rattle.causal_protocol.specs.Naming.{message_name, named_for, sent_message_for, send_of, next_rsn, next_ssn, next_own_det, listed_for}
+use Rattle.causal_protocol.specs.Run.{Run, memories, memories_of, stable_of}
+use Rattle.causal_protocol.specs.Naming.{message_name, named_for, sent_message_for, next_rsn, next_ssn, next_own_det, listed_for}
 use Rattle.causal_protocol.specs.Refusals.{fault_if, fault_unless_named, request_refusals, request_fault, restart_list, dets_to_flush, dets_to_forget}
-use Rattle.causal_protocol.specs.Steps.{append_all, extend_run, receiver_of, sends_of, AreSends, delivery_entry, forget_entries, LegalStep, flush_reason_of, IsPartialFlush}
-use Rattle.causal_protocol.specs.MemoryQueries.{memory_logs, knows_stable, has_item, has_entry, log_knows_holder, log_knows_stable, parcel_of, volatile_of}
+use Rattle.causal_protocol.specs.Steps.{append_all, extend_run, receiver_of, sends_of, AreSends, delivery_entry, forget_entries, LegalStep, flush_reason_of}
+use Rattle.causal_protocol.specs.MemoryQueries.{memory_logs, knows_stable, has_item, volatile_of}
 use Rattle.causal_protocol.specs.Invariant.{logs_or_stable}
 use Rattle.causal_protocol.specs.Runs.{IsInvariantState, SatisfiesInvariant, RequestsPreserveInvariant, RefusalsChangeNothing, HaveBegunBelow, IsReachable, opened, stepped, StartSatisfiesInvariant}
 use Rattle.causal_protocol.proofs.Facts.{few_down, known_holders_true, carried_holders_true, marks_true, dependents_log, messages_carry, receivers_have_survivors, senders_have_carried}
-use Rattle.causal_protocol.proofs.Places.{at_set, at_within, log_here, set_elsewhere, beginners, at_first, log_first, messages_first}
+use Rattle.causal_protocol.proofs.Places.{at_set, log_here, set_elsewhere, changed_here, beginners, at_first, log_first, messages_first}
 use Rattle.causal_protocol.proofs.LearnedLogs.{keys_have}
 use Rattle.causal_protocol.proofs.Choices.{unstable_logged, stable_have, marked_entry}
 use Rattle.causal_protocol.proofs.Lemmas.LogMembers.{own_have, items_have, none_entry, none_holds, none_stable}
 use Rattle.causal_protocol.proofs.Refusals.{third_none, is_there, kept_for-is, kept_message, only_named, down_counted}
 use Rattle.causal_protocol.proofs.SoundSteps.{send_sound, was_sent, delivery_sound, stable_sound, forget_sound, crash_sound, restart_sound}
 use Rattle.std.specs.FinMap as fin
-use Rattle.causal_steps.specs.Reachable.{IsInitial, initial}
+use Rattle.causal_steps.specs.Reachable.{initial}
 
 -- the invariant of a state, with the memories that the run makes
 abbrev pub IsKept : ℕ → ℕ → List Pid → List Entry → Type 0
 IsKept n f writers past = IsInvariantState n f past (memories n f writers past)
-
-set_here : {X : Type 0} (xs : List (Option X)) (w : ℕ) (x : Option X) → w < length xs → present_at (slice_set xs w x) w ≡ x
-set_here xs w x low = grind (arith, at_set xs w x w, eqb_tells w w)
 
 -- the sends of an up process preserve it, one after the other
 sends_kept : (n f : ℕ) (writers : List Pid) (past : List Entry) (q : Pid) (ssn : ℕ) (tos : List Pid) (m : Memory) → present_at (memories n f writers past) q.0 ≡ Some m → q.0 < n → ssn ≡ length m.sent → IsKept n f writers past
@@ -53,9 +50,8 @@ unfolding memories sends_of
 sends_kept n f writers past q ssn [] m here low is s = (s, λ p away. refl)
 sends_kept n f writers past q ssn (to ∷ tos) m here low is s =
     let ms = memories n f writers past in
-    let bound : q.0 < length ms = at_within ms q.0 m here in
     let next : IsInvariantState n f (Send q to ssn ∷ past) (update_at (with_sent f to (length past)) ms q.0) = subst (λ x. IsInvariantState n f (Send q to x ∷ past) (update_at (with_sent f to (length past)) ms q.0)) (sym is) (send_sound n f past ms q to m here low s) in
-    let there : present_at (update_at (with_sent f to (length past)) ms q.0) q.0 ≡ Some (with_sent f to (length past) m) = set_here ms q.0 (option_map (with_sent f to (length past)) (present_at ms q.0)) bound ∙ ap (option_map (with_sent f to (length past))) here in
+    let there : present_at (update_at (with_sent f to (length past)) ms q.0) q.0 ≡ Some (with_sent f to (length past) m) = changed_here (with_sent f to (length past)) ms q.0 q.0 refl ∙ ap (option_map (with_sent f to (length past))) here in
     let rest = sends_kept n f writers (Send q to ssn ∷ past) q (ssn + 1) tos (with_sent f to (length past) m) there low (ap (λ x. x + 1) is ∙ sym (length_push m.sent _)) next in
     (rest.0, λ p away. rest.1 p away ∙ set_elsewhere ms q.0 (option_map (with_sent f to (length past)) (present_at ms q.0)) p away)
 
@@ -72,9 +68,8 @@ unfolding memories
 flush_kept n f writers past p [] m here low logged s = s
 flush_kept n f writers past p (d ∷ ds) m here low logged s =
     let ms = memories n f writers past in
-    let bound : p.0 < length ms = at_within ms p.0 m here in
     let next : IsKept n f (p ∷ writers) (Stable d ∷ past) = stable_sound n f past ms p m d here low (logged d (or_left _ _ (same_itself d))) s in
-    let there : present_at (memories n f (p ∷ writers) (Stable d ∷ past)) p.0 ≡ Some (with_log (λ log. after_mark log d) m) = set_here ms p.0 (option_map (with_log (λ log. after_mark log d)) (present_at ms p.0)) bound ∙ ap (option_map (with_log (λ log. after_mark log d))) here in
+    let there : present_at (memories n f (p ∷ writers) (Stable d ∷ past)) p.0 ≡ Some (with_log (λ log. after_mark log d) m) = changed_here (with_log (λ log. after_mark log d)) ms p.0 p.0 refl ∙ ap (option_map (with_log (λ log. after_mark log d))) here in
     let still : (x : Det) → list_has ds x ≡ true → memory_logs (memories n f (p ∷ writers) (Stable d ∷ past)) p.0 x ≡ true = λ x h.
     let new = log_here (memories n f (p ∷ writers) (Stable d ∷ past)) p.0 (with_log (λ log. after_mark log d) m) there in
     grind (arith, new, log_here ms p.0 m here, marked_entry m.log d x, logged x) in
@@ -120,9 +115,8 @@ module _ (r : Run) (s : SatisfiesInvariant r) where
           let sound = delivery_sound n r.faults past ms q (next_rsn ms q) asked m k (listed_for ms q asked) here low from found named lists s in
           let sent = was_sent n r.faults past ms q (next_rsn ms q) asked m k (listed_for ms q asked) here low from found named lists s in
           let next : IsKept n r.faults r.writers (delivery_entry r q asked ∷ past) = grind (arith, sent, sound) in
-          let bound : q.0 < length ms = at_within ms q.0 m here in
           let there : present_at (memories n r.faults r.writers (delivery_entry r q asked ∷ past)) q.0 ≡ Some (with_received k.batch (next_own_det ms q asked) m) =
-          grind (arith, sent, set_here ms q.0 (option_map (with_received k.batch (next_own_det ms q asked)) (present_at ms q.0)) bound) in
+          grind (arith, sent, changed_here (with_received k.batch (next_own_det ms q asked)) ms q.0 q.0 refl) in
           (are_sends_kept n r.faults r.writers (delivery_entry r q asked ∷ past) q (next_ssn ms q) number (drop 1 appended) (with_received k.batch (next_own_det ms q asked) m) sends there low (ap (λ o. option_map_or (λ m. length m.sent) o 0) here) next).0
 
   crashes : (p : Pid) (appended : List Entry) → request_fault r (Requests.Crash p) ≡ None → appended ≡ Crash p ∷ [] → SatisfiesInvariant (extend_run r (Requests.Crash p) appended)
@@ -134,9 +128,8 @@ module _ (r : Run) (s : SatisfiesInvariant r) where
   restarts_kept p number appended none is sends =
       let low : p.0 < n = grind arith in
       let down : present_at ms p.0 ≡ None = grind arith in
-      let bound : p.0 < length ms = omega (arith, low, s.fit.count) in
       let next : IsKept n r.faults r.writers (Restart p (restart_list r p) ∷ past) = restart_sound n r.faults past ms p (restart_list r p) low down (λ d. keys_have (restart_log ms (stable_set past) p) d) s in
-      let there : present_at (memories n r.faults r.writers (Restart p (restart_list r p) ∷ past)) p.0 ≡ Some (new_memory (restart_log ms (stable_set past) p)) = set_here ms p.0 (Some (new_memory (restart_log ms (stable_set past) p))) bound in
+      let there : present_at (memories n r.faults r.writers (Restart p (restart_list r p) ∷ past)) p.0 ≡ Some (new_memory (restart_log ms (stable_set past) p)) = grind (arith, at_set ms p.0 (Some (new_memory (restart_log ms (stable_set past) p))) p.0 (omega (arith, low, s.fit.count)), eqb_tells p.0 p.0) in
       subst (λ es. IsKept n r.faults r.writers (append_all es past)) (sym is) (are_sends_kept n r.faults r.writers (Restart p (restart_list r p) ∷ past) p 0 number (drop 1 appended) (new_memory (restart_log ms (stable_set past) p)) sends there low refl next).0
 
   flushes : (p : Pid) (ds : List Det) (appended : List Entry) → request_fault r (Requests.Flush p) ≡ None → ((d : Det) → list_has ds d ≡ true → list_has (dets_to_flush r p) d ≡ true) → appended ≡ map Stable ds → SatisfiesInvariant (extend_run r (Requests.Flush p) appended)
@@ -155,10 +148,8 @@ module _ (r : Run) (s : SatisfiesInvariant r) where
       let up = is_there (present_at ms p.0) (grind arith) in
       let known : (d : Det) → list_has (dets_to_forget r p) d ≡ true → knows_stable ms p.0 d ≡ true = λ d h.
       grind (arith, log_here ms p.0 up.0 up.1, stable_have up.0.log d) in
-      subst (λ es. IsKept n r.faults r.writers (append_all es past)) (sym is) (by_list (dets_to_forget r p) low up.0 up.1 known)
-    where
-      by_list : (ds : List Det) → p.0 < n → (m : Memory) → present_at ms p.0 ≡ Some m → ((d : Det) → list_has ds d ≡ true → knows_stable ms p.0 d ≡ true) → IsKept n r.faults r.writers (append_all (forget_entries p ds) past)
-      by_list ds low m here known = grind (arith, forget_sound n r.faults past ms p m ds here low known s)
+      let next = forget_sound n r.faults past ms p up.0 (dets_to_forget r p) up.1 low known s in
+      grind (arith, next)
 
   nothing_appended : (request : Request) (appended : List Entry) → appended ≡ [] → SatisfiesInvariant (extend_run r request appended)
   nothing_appended request appended is = grind arith
@@ -190,23 +181,11 @@ refusals_change_nothing old new request fault step = grind arith
 -- so the eight facts of the invariant hold after each legal step
 pub ruleset facts_after = (steps_keep_runs, few_down, known_holders_true, carried_holders_true, marks_true, dependents_log, messages_carry, receivers_have_survivors, senders_have_carried)
 
--- nothing is known when all processes begin, and no message was sent
-begins_with_nothing : (n : ℕ) → IsInitial (volatile_of (beginners n))
-begins_with_nothing n = record {
-  no_holders = λ p d q. ap (log_knows_holder d q) (log_first n p) ∙ none_holds d q;
-  no_stable = λ p d. ap (log_knows_stable d) (log_first n p) ∙ none_stable d;
-  no_parcels = λ p ssn. ap (λ xs. option_map (parcel_of p) (slice_get xs ssn)) (messages_first n p);
-}
-
+-- when all processes begin, nothing is known, and no message was sent
 first_sound : (n f : ℕ) → IsInvariantState n f [] (beginners n)
 first_sound n f = record {
-  fit = record {
-    count = length-replicate n (Some (new_memory fin.empty));
-    state = λ p small. ap is_none (at_first n p small);
-    placed = λ p ssn k h. absurd (let e : None ≡ Some k = ap (λ xs. slice_get xs ssn) (sym (messages_first n p)) ∙ h in cc);
-    logged = λ p d small. ap (has_entry d) (log_first n p) ∙ none_entry d;
-  };
-  reached = initial (volatile_of (beginners n)) (begins_with_nothing n);
+  fit = grind (arith, length-replicate n (Some (new_memory fin.empty)), at_first n, messages_first n, log_first n, none_entry);
+  reached = initial (volatile_of (beginners n)) (grind (arith, log_first n, messages_first n, none_holds, none_stable));
 }
 
 -- the invariant after the first processes have begun; the others have sent nothing

@@ -23,6 +23,7 @@ pub fn invariant_implies_safe()
 {}
 
 /// No run strays from what survives: at each of its instants no two different surviving determinants fill one slot.
+#[tactic(auto, using(crate::proofs::Facts::followed, crate::proofs::StepKeeps::made_runs))]
 pub fn runs_are_followed()
     ensures reachable { OfReachableRuns IsFollowedRun }
     ensures invariant { OfInvariantRuns IsFollowedRun }
@@ -43,6 +44,7 @@ pub fn replies_match_entries()
 
 /// A delivery lists exactly its own determinant and what the message carries. A restart lists exactly what survives,
 /// in the log of an up process or in stable storage.
+#[tactic(auto, using(crate::proofs::Lemmas::LogMembers::own_have, crate::proofs::LearnedLogs::keys_have, crate::proofs::SoundSteps::gathered_survivors))]
 pub fn entry_lists_are_exact()
     ensures delivery { DeliveryListsAreExact }
     ensures restart { OfInvariantRuns RestartListsAreExact }
@@ -50,6 +52,7 @@ pub fn entry_lists_are_exact()
 
 /// What an up process knows of holders and marks is exactly what its present lane (incarnation) contributed by its
 /// deliveries, its restart and its flushes, since it last forgot the determinant.
+#[tactic(auto, using(crate::proofs::Contributions::holders_are_contributed, crate::proofs::Contributions::marks_are_contributed))]
 pub fn knowledge_is_contributed()
     ensures holders { HoldersAreContributed }
     ensures marks { MarksAreContributed }

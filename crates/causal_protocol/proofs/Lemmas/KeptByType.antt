@@ -1,9 +1,8 @@
 -- Lemmas for a type that carries the invariant of its run, without a proof term.
-use Rattle.std.proofs.Common.{ℕ, ◌≡◌, List, []}
+use Rattle.std.proofs.Common.{◌≡◌, []}
 use Rattle.std.proofs.Props.{props}
 use Rattle.std.proofs.Math.Logic.{∥∥₁_map, ∥∥₁_elim}
-use Rattle.causal_trace.specs.declared.entry.Entry.{Entry}
-use Rattle.causal_trace.specs.Judgement.{IsSafe, IsSafeTrace}
+use Rattle.causal_trace.specs.Judgement.{IsSafeTrace}
 use Rattle.causal_trace.specs.Survivors.{IsFollowed}
 use Rattle.causal_protocol.specs.declared.request.Request.{Request}
 use Rattle.causal_protocol.specs.declared.request.Reply.{Reply}
@@ -13,13 +12,6 @@ use Rattle.causal_protocol.specs.Invariant.{SlotsAreSingle}
 use Rattle.causal_protocol.specs.Runs.{HaveBegunBelow, SatisfiesInvariant}
 use Rattle.causal_protocol.proofs.Facts.{safe, single_slots, followed}
 use Rattle.causal_protocol.proofs.StepKeeps.{openings_are_runs, steps_keep_runs}
-
--- safety and single slots have at most one proof
-IsSafe-prop : (n f : ℕ) (past : List Entry) → IsProp (IsSafe n f past)
-IsSafe-prop n f past = Prim.hlevel props
-
-SlotsAreSingle-prop : (n : ℕ) (past : List Entry) → IsProp (SlotsAreSingle n past)
-SlotsAreSingle-prop n past = Prim.hlevel props
 
 -- the initial state satisfies the invariant
 pub start_satisfies : (r : Run) → HaveBegunBelow r.recording.processes r.recording.processes r.recording.past → r.writers ≡ [] → ∥ SatisfiesInvariant r ∥₁
@@ -31,12 +23,12 @@ step_preserves old new request reply step kept = ∥∥₁_map kept (steps_keep_
 
 -- the invariant implies that the run is safe
 pub invariant_safe : (r : Run) → ∥ SatisfiesInvariant r ∥₁ → IsSafeTrace r.recording r.faults
-invariant_safe r kept = ∥∥₁_elim kept (Prim.hlevel (props, IsSafe-prop)) (λ s. safe _ _ _ _ s)
+invariant_safe r kept = ∥∥₁_elim kept (Prim.hlevel props) (λ s. safe _ _ _ _ s)
 
 -- the invariant implies that no two survivors share a slot
 pub invariant_single : (r : Run) → ∥ SatisfiesInvariant r ∥₁ → SlotsAreSingle r.recording.processes r.recording.past
-invariant_single r kept = ∥∥₁_elim kept (SlotsAreSingle-prop r.recording.processes r.recording.past) (λ s. single_slots _ _ _ _ s)
+invariant_single r kept = ∥∥₁_elim kept (Prim.hlevel props) (λ s. single_slots _ _ _ _ s)
 
 -- the invariant implies that the run follows what survives
 pub invariant_followed : (r : Run) → ∥ SatisfiesInvariant r ∥₁ → IsFollowed r.recording
-invariant_followed r kept = ∥∥₁_elim kept (Prim.hlevel (props, SlotsAreSingle-prop)) (λ s. followed _ _ _ _ s)
+invariant_followed r kept = ∥∥₁_elim kept (Prim.hlevel props) (λ s. followed _ _ _ _ s)

@@ -1,5 +1,5 @@
 -- How many entries a legal step appends: as many as its reply says, and one stable entry for each writer.
-use Rattle.std.proofs.Common.{◌≡◌, ◌≤◌, ◌+◌, refl, ℕ, List, [], ◌∷◌, length, map, count_by, cond, length-take, arith}
+use Rattle.std.proofs.Common.{◌≡◌, ◌+◌, refl, ℕ, List, [], ◌∷◌, length, map, count_by, cond, length-take, arith}
 use Rattle.std.proofs.lemmas.List.{length-map, length-replicate}
 use Rattle.std.proofs.lemmas.List.Sums.{sum_by-cons}
 use Rattle.causal_name.specs.declared.Pid.{Pid}
@@ -8,11 +8,10 @@ use Rattle.causal_trace.specs.declared.entry.Entry.{Entry}
 use Rattle.causal_trace.specs.declared.entry.Entry.TheVariants.{Stable}
 use Rattle.causal_protocol.specs.declared.request.Request.{Request}
 use Rattle.causal_protocol.specs.declared.request.Reply.{Reply}
-use Rattle.causal_protocol.specs.declared.request.CoreFault.{CoreFault}
 use Rattle.causal_protocol.specs.Run.{Run}
-use Rattle.causal_protocol.specs.Steps.{LegalStep, IsPartialFlush, append_all, sends_of, forget_entries, writers_of}
+use Rattle.causal_protocol.specs.Steps.{LegalStep, append_all, sends_of, writers_of}
 use Rattle.causal_protocol.specs.Runs.{RepliesMatchEntries}
-use Rattle.causal_protocol.specs.ReplyEntries.{is_stable_entry, reply_entries, forget_entry_count}
+use Rattle.causal_protocol.specs.ReplyEntries.{is_stable_entry, reply_entries}
 
 written-sends_of : (q : Pid) (ssn : ℕ) (tos : List Pid) → count_by is_stable_entry (sends_of q ssn tos) ≡ 0
 unfolding sends_of
