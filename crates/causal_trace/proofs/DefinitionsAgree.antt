@@ -1,6 +1,5 @@
 -- The definitions agree with their other forms.
-use Rattle.std.proofs.Common.{ℕ, List, [], ◌∷◌, ◌++◌, drop, refl, sym, subst, arith, ◌≡◌, ◌<◌, true, length, Some, None}
-use Rattle.std.proofs.lemmas.List.{reverse-append, length-reverse, length-drop, drop_at, take-append-drop}
+use Rattle.std.proofs.Common.{ℕ, List, [], ◌∷◌, ◌++◌, refl, sym, subst, arith, ◌≡◌, true, length, Some, None}
 use Rattle.std.proofs.lemmas.Option.{slice_get-get_or}
 use Rattle.std.proofs.lemmas.Bool.{eqb-true, cond-true, cond-false, eq-eqb, ne_eqb, false≢true}
 use Rattle.causal_trace.specs.declared.entry.Entry.{Entry}

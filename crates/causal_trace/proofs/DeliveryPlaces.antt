@@ -1,8 +1,7 @@
 -- The index of the newest receipt of a determinant, in the chain of its message.
 use Rattle.std.proofs.lemmas.Grind.{common_steps}
-use Rattle.std.proofs.Common.{ℕ, ◌≡◌, ◌+◌, ◌<◌, true, false, cond, ◌==◌, List, [], ◌∷◌, length, get_or, reverse, Option, Some, None, refl, arith}
+use Rattle.std.proofs.Common.{ℕ, ◌≡◌, ◌+◌, ◌<◌, cond, List, [], ◌∷◌, length, get_or, reverse, Option, Some, None, refl, arith}
 use Rattle.std.specs.Prelude.{nat_lt, ◌&&◌, IfSome}
-use Rattle.std.specs.Option.{option_map_or}
 use Rattle.std.proofs.lemmas.Bool.{eqb-true, cond-true, cond-false, cases_Bool}
 use Rattle.std.proofs.lemmas.Bool.Decides.{eqb_tells}
 use Rattle.causal_name.specs.declared.MsgName.{MsgName}
@@ -10,12 +9,8 @@ use Rattle.causal_name.specs.declared.Det.{Det}
 use Rattle.causal_name.specs.Names.{same_message, message_of}
 use Rattle.causal_trace.specs.declared.chains.MessageReceipt.{MessageReceipt}
 use Rattle.causal_trace.specs.declared.chains.ReceiptNode.{ReceiptNode}
-use Rattle.causal_trace.specs.Inside.Chains.{Heads, HasHead, IsPlaceBelow, LeadDown, AreLinked, head_of, is_receipt_of, receipt_index, with_head}
-use Rattle.causal_trace.proofs.ReceiptChains.{below_higher, head_leads, leads_on, node_newest, node_older}
-
--- a newer node is in no chain of older nodes
-place_skips : (n : ℕ) (d : Det) (node : ReceiptNode) (older : List ReceiptNode) (at : Option ℕ) → IsPlaceBelow at (length older) → receipt_index n d (node ∷ older) at ≡ receipt_index n d older at
-place_skips n d node older at h = grind (arith, eqb_tells)
+use Rattle.causal_trace.specs.Inside.Chains.{Heads, HasHead, LeadDown, AreLinked, head_of, is_receipt_of, receipt_index, with_head}
+use Rattle.causal_trace.proofs.ReceiptChains.{head_leads, leads_on, node_newest, node_older}
 
 -- a search from a node finds the node's own index, or continues at the linked node
 abbrev pub GoesOn : ℕ → Det → List ReceiptNode → ReceiptNode → ℕ → Type 0
@@ -24,7 +19,7 @@ GoesOn n d nodes node k = receipt_index n d nodes (Some k) ≡ cond (nat_lt k n 
 pub place_on : (n : ℕ) (d : Det) (nodes : List ReceiptNode) (k : ℕ) (x : ReceiptNode) → LeadDown nodes → k < length nodes → GoesOn n d nodes (get_or (reverse nodes) k x) k
 place_on n d [] k x down h = absurd (omega (arith, h))
 place_on n d (node ∷ older) k x down h =
-    grind (arith, eqb_tells, node_newest, place_skips, node_older, place_on n d older k x down.1, below_higher, leads_on)
+    grind (arith, eqb_tells, node_newest, node_older, place_on n d older k x down.1, leads_on)
 
 -- an empty chain has no such receipt
 pub place_none : (n : ℕ) (d : Det) (nodes : List ReceiptNode) (at : Option ℕ) → ((k : ℕ) → at ≡ Some k → ⊥) → receipt_index n d nodes at ≡ None
@@ -35,13 +30,7 @@ place_none n d (node ∷ older) at h = grind (arith, place_none n d older at h)
 pub receipt_placed : (heads : Heads) (nodes : List ReceiptNode) (m : MsgName) (n : ℕ) (d : Det) (receipt : MessageReceipt) → HasHead heads m → AreLinked heads nodes
     → receipt_index n d (record { receipt = receipt; next = head_of heads m } ∷ nodes) (head_of (with_head heads m (Some (length nodes))) (message_of d)) ≡ cond (same_message m (message_of d) && (nat_lt (length nodes) n && is_receipt_of d receipt)) (Some (length nodes)) (receipt_index n d nodes (head_of heads (message_of d)))
 receipt_placed heads nodes m n d receipt has linked =
-    grind (
-      arith,
-      common_steps,
-      head_leads heads m (message_of d) (Some (length nodes)) has,
-      eqb_tells (length nodes) (length nodes),
-      place_skips n d (record { receipt = receipt; next = head_of heads m }) nodes (head_of heads (message_of d)) (linked.heads_lead (message_of d)),
-    )
+    grind (arith, common_steps, head_leads heads m (message_of d) (Some (length nodes)) has, eqb_tells, linked.heads_lead (message_of d))
 
 -- ---- an older receipt with the same determinant
 

@@ -1,15 +1,15 @@
 -- The present lanes, after one more entry.
 use Rattle.std.proofs.lemmas.Grind.{common_steps}
-use Rattle.std.proofs.Common.{ℕ, ◌≡◌, ◌<◌, ◌≤◌, Bool, false, cond, ◌==◌, List, [], ◌∷◌, length, get_or, Option, Some, None, refl, sym, subst, arith}
-use Rattle.std.specs.Prelude.{IfSome, All, replicate}
+use Rattle.std.proofs.Common.{ℕ, ◌≡◌, ◌<◌, ◌≤◌, false, cond, ◌==◌, List, [], ◌∷◌, length, get_or, Option, None, refl, arith}
+use Rattle.std.specs.Prelude.{IfSome, All}
 use Rattle.std.specs.Option.{option_map_or}
-use Rattle.std.proofs.lemmas.List.{get_or-set_same, get_or-set_other, length-set, length-replicate, get_or-replicate}
+use Rattle.std.proofs.lemmas.List.{get_or-set_same, get_or-set_other, length-set}
 use Rattle.causal_name.specs.declared.Pid.{Pid}
 use Rattle.causal_trace.specs.declared.entry.Entry.{Entry}
 use Rattle.causal_trace.specs.declared.lanes.LaneState.{LaneState}
 use Rattle.causal_trace.specs.Past.{lane, has_delivered}
 use Rattle.causal_trace.specs.Rows.{rows_within, first_fault, AreLegalEntries}
-use Rattle.causal_trace.specs.Inside.Index.{lane_state, first_lane, lane_after, subject, lanes_after, lanes_after_of, ArePresentLanes, CountersFit}
+use Rattle.causal_trace.specs.Inside.Index.{lane_state, lane_after, subject, lanes_after, lanes_after_of, ArePresentLanes, CountersFit}
 use Rattle.causal_trace.proofs.Lemmas.CountBounds.{sends_few, deliveries_few}
 use Rattle.causal_name.specs.declared.MsgName.{MsgName}
 use Rattle.causal_trace.specs.Inside.Chains.{receipts, is_newest_in}

@@ -1,6 +1,5 @@
 -- Chains of receipts, after one more message or receipt.
-use Rattle.std.proofs.Common.{ℕ, ◌≡◌, ◌+◌, ◌<◌, ◌≤◌, true, false, cond, ◌==◌, List, [], ◌∷◌, ◌++◌, length, get_or, set, reverse, Option, Some, None, refl, arith}
-use Rattle.std.specs.Option.{option_map_or}
+use Rattle.std.proofs.Common.{ℕ, ◌≡◌, ◌<◌, ◌≤◌, cond, ◌==◌, List, [], ◌∷◌, length, get_or, set, reverse, Option, Some, None, refl, arith}
 use Rattle.std.proofs.lemmas.Bool.{eq-eqb, cond-true, cond-false}
 use Rattle.std.proofs.lemmas.Bool.Decides.{eqb_tells}
 use Rattle.std.proofs.lemmas.List.{get_or-set_same, get_or-set_other, length-set, reverse-append, length-reverse, length-append, get_or_append_left, get_or_past}
@@ -10,14 +9,6 @@ use Rattle.causal_name.specs.Names.{same_message}
 use Rattle.causal_trace.specs.declared.chains.MessageReceipt.{MessageReceipt}
 use Rattle.causal_trace.specs.declared.chains.ReceiptNode.{ReceiptNode}
 use Rattle.causal_trace.specs.Inside.Chains.{Heads, heads_of, head_of, HasHead, IsPlaceBelow, LeadDown, chain, AreLinked, with_next_head, with_message, with_head}
-
--- an index below a bound is below a higher bound
-pub below_higher : (at : Option ℕ) (a b : ℕ) → a ≤ b → IsPlaceBelow at a → IsPlaceBelow at b
-below_higher at a b h k = grind arith
-
--- a newer node is in no chain of older nodes
-pub chain_skips : (node : ReceiptNode) (older : List ReceiptNode) (at : Option ℕ) → IsPlaceBelow at (length older) → chain (node ∷ older) at ≡ chain older at
-chain_skips node older at h = grind (arith, eqb_tells)
 
 -- the links of a node
 pub record Leads (nodes : List ReceiptNode) (node : ReceiptNode) (k : ℕ) : Type 0 where
@@ -68,11 +59,7 @@ head_lengths heads m q at h = grind (arith, heads_replaced, length-set)
 
 -- the chain of each message, after one more receipt
 pub receipt_leads : (heads : Heads) (nodes : List ReceiptNode) (m q : MsgName) (receipt : MessageReceipt) → HasHead heads m → AreLinked heads nodes → chain (record { receipt = receipt; next = head_of heads m } ∷ nodes) (head_of (with_head heads m (Some (length nodes))) q) ≡ cond (same_message m q) (receipt ∷ chain nodes (head_of heads q)) (chain nodes (head_of heads q))
-receipt_leads heads nodes m q receipt has linked = grind (arith, head_leads, chain_skips)
-
--- a walk along a chain visits descending indices
-pub walk_falls : (next : Option ℕ) (k : ℕ) → IsPlaceBelow next k → option_map_or (λ i. i + 1) next 0 < k + 1
-walk_falls next k h = grind arith
+receipt_leads heads nodes m q receipt has linked = grind (arith, head_leads, eqb_tells)
 
 -- an empty head has no receipts
 pub chain_ends : (nodes : List ReceiptNode) (at : Option ℕ) → ((k : ℕ) → at ≡ Some k → ⊥) → chain nodes at ≡ []

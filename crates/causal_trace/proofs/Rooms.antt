@@ -1,8 +1,7 @@
 -- The least spare capacity of several lists.
 use Rattle.std.proofs.Common.{ℕ, zero, suc, ◌+◌, ◌-◌, ◌<◌, ◌≤◌, Vec, Global, List, [], ◌∷◌, length, get_or, set, Option, arith}
-use Rattle.std.proofs.Common.{◌≡◌, ap, Ok, Err}
+use Rattle.std.proofs.Common.{Ok, Err}
 use Rattle.std.specs.Prelude.{vec_len, vec_capacity, OnErr, Result}
-use Rattle.std.specs.Vec.{with_item}
 use Rattle.std.proofs.lemmas.List.{get_or-set_same, get_or-set_other}
 use Rattle.std.proofs.Math.Nat.{min-le_left, min-le_right, le-min}
 use Rattle.causal_trace.specs.Inside.Chains.{least_room}
@@ -30,11 +29,6 @@ pub least_set : (lists : List (Vec (Option ℕ) Global)) (p other now : ℕ) (li
 least_set [] p other now list d h k l = absurd (omega (arith, h))
 least_set (first ∷ lists) zero other now list d h k l = omega (arith, k, least_falls lists other now l)
 least_set (first ∷ lists) (suc p) other now list d h k l = omega (arith, least_set lists p other now list d (omega (arith, h)) k l)
-
--- a write to one list and one more node lower the least by at most one
-pub least_written : (lists : List (Vec (Option ℕ) Global)) (p k other now : ℕ) (found : Vec (Option ℕ) Global) (value : Option ℕ) → p < length lists → found ≡ get_or lists p found → other ≤ now + 1
-    → least_room lists other ≤ least_room (set lists p (with_item found k value)) now + 1
-least_written lists p k other now found value inside is falls = least_set lists p other now (with_item found k value) found inside (omega (arith, ap room is)) falls
 
 -- replacing a list by one with at least its spare capacity does not lower the least
 pub least_grown : (lists : List (Vec (Option ℕ) Global)) (p other : ℕ) (list d : Vec (Option ℕ) Global) → p < length lists → room (get_or lists p d) ≤ room list → least_room lists other ≤ least_room (set lists p list) other

@@ -1,14 +1,12 @@
 -- Every number of a well-formed recording is bounded.
 use Rattle.std.proofs.Common.{ℕ, ◌≡◌, ◌<◌, ◌≤◌, true, List, [], ◌∷◌, ◌++◌, length, reverse, Option, None, sym, subst, arith}
 use Rattle.std.specs.Prelude.{IfSome}
-use Rattle.std.specs.Option.{option_map}
 use Rattle.std.proofs.lemmas.Bool.{false≢true, eqb-true}
 use Rattle.std.proofs.lemmas.List.{reverse-append}
-use Rattle.causal_name.specs.declared.Pid.{Pid}
 use Rattle.causal_name.specs.declared.Det.{Det}
 use Rattle.causal_trace.specs.declared.entry.Entry.{Entry}
 use Rattle.causal_trace.specs.declared.entry.Entry.TheVariants.{Deliver}
-use Rattle.causal_trace.specs.Past.{restarts, message_at, det_from, det_of, is_delivered}
+use Rattle.causal_trace.specs.Past.{restarts, message_at, det_of, is_delivered}
 use Rattle.causal_trace.specs.Rows.{rows_within, first_fault, are_delivered_with, AreLegalEntries}
 use Rattle.causal_trace.specs.Sizes.{DetIsBounded, DetsAreBounded, EntryIsBounded, EntriesAreBounded, NumbersAreBounded, LimitsAreKept}
 use Rattle.causal_trace.proofs.Lemmas.CountBounds.{sends_few, deliveries_few}

@@ -39,10 +39,6 @@ pub deliveries_in_few : (past : List Entry) → deliveries_in past ≤ length pa
 deliveries_in_few [] = omega arith
 deliveries_in_few (e ∷ past) = grind (arith, deliveries_in_few past)
 
--- the receiver of a legal delivery is a process of the run
-pub det_there : (n : ℕ) (past : List Entry) (e : Entry) → first_fault n past e ≡ None → IfSome (det_of past e) (λ d. d.dest.0 < n)
-det_there n past e h = grind (arith, subject_there)
-
 sends_one : (e : Entry) (p : ℕ) → is_send_to p e ≡ true → (m : MsgName) × (message_sent e ≡ Some m)
 sends_one (Send from to ssn) p h = (record { source = from; ssn = ssn }, refl)
 sends_one e p h = absurd (false≢true h)
@@ -122,10 +118,6 @@ indexed_stable r det listed restarted lanes c sorted was next = grind (arith, ke
 -- the index depends on the heads and the nodes of the chains only, and on the deliveries in the sorted set
 pub indexed_same : (r : Recording) (listed restarted : ℕ) (lanes : List LaneState) (c new : ChainsState) (sorted resorted : SortedDeliveries) → IsIndexed r listed restarted lanes c sorted → new.heads ≡ c.heads → new.nodes ≡ c.nodes → AreDeliveries resorted (delivered_dets r.past) → IsIndexed r listed restarted lanes new resorted
 indexed_same r listed restarted lanes c new sorted resorted was heads nodes deliveries = grind arith
-
--- the sender of a legal send is a process of the run
-pub sender_there : (n : ℕ) (past : List Entry) (e : Entry) → first_fault n past e ≡ None → IfSome (message_sent e) (λ m. m.source.0 < n)
-sender_there n past e h = grind (arith, subject_there)
 
 -- the search from a delivery finds the next older one
 pub older_place : (n : ℕ) (past : List Entry) (heads : Heads) (nodes : List ReceiptNode) (m : ℕ) (d : Det) → AreChains n past heads nodes → number_of (m + 1) (delivered_dets past) d ≡ Some m → receipt_index m d nodes (Some m) ≡ number_of m (delivered_dets past) d

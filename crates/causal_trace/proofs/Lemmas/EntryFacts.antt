@@ -11,7 +11,6 @@ use Rattle.causal_trace.specs.declared.fault.TraceFault.TheVariants.{NotUp, NotD
 use Rattle.causal_trace.specs.Past.{is_down, is_sent_to}
 use Rattle.causal_trace.specs.Rows.{rows_within, refusal_rows, first_refusal, first_fault, AreLegalEntries}
 use Rattle.causal_trace.specs.Dependence.{is_delivery_of}
-use Rattle.causal_trace.proofs.Lemmas.WellFormed.{nothing_told}
 use Rattle.causal_trace.proofs.Lemmas.Instants.{entry_beyond}
 use Rattle.causal_trace.specs.Dependence.{AreForward}
 
@@ -24,7 +23,7 @@ not_false false h = sym h
 pub row_fails : (told : List (Bool × TraceFault)) → first_refusal told ≡ None → (k : ℕ) (row : Bool × TraceFault) → slice_get told k ≡ Some row → row.0 ≡ false
 row_fails [] h k row at = absurd (let e : None ≡ Some row = at in cc)
 row_fails (first ∷ rest) h zero row at = grind arith
-row_fails (first ∷ rest) h (suc k) row at = row_fails rest (nothing_told first.0 first.1 (first_refusal rest) h).1 k row at
+row_fails (first ∷ rest) h (suc k) row at = row_fails rest (grind arith) k row at
 
 -- the receiver of a legal delivery is up
 pub delivers_up : (n : ℕ) (past : List Entry) (to : Pid) (send rsn : ℕ) (listed : List Det) → first_fault n past (Deliver to send rsn listed) ≡ None → is_down past to.0 ≡ false

@@ -1,20 +1,14 @@
 -- Well-formed recordings, and one more entry.
-use Rattle.std.proofs.Common.{ℕ, ◌≡◌, ◌+◌, ◌≤◌, Bool, true, false, cond, List, [], ◌∷◌, length, Option, Some, None, refl, arith}
+use Rattle.std.proofs.Common.{ℕ, ◌≡◌, ◌+◌, ◌≤◌, true, false, cond, List, [], ◌∷◌, length, Some, None, arith}
 use Rattle.std.specs.Prelude.{nat_lt, nat_le, ◌||◌, ◌/◌, min}
 use Rattle.std.proofs.Math.Nat.{min-le_left}
 use Rattle.causal_trace.specs.declared.entry.Entry.{Entry}
-use Rattle.causal_trace.specs.declared.fault.TraceFault.{TraceFault}
 use Rattle.causal_trace.specs.declared.fault.TraceFault.TheVariants.{NoMemory}
 use Rattle.causal_trace.specs.Past.{listed_in, listed_by, restarts}
 use Rattle.causal_trace.specs.Rows.{Recording, rows_within, first_refusal, first_fault, fault_by_refusal_rows, fault_within, exceeds_any_limit, AreLegalEntries, IsWellFormed, FitsLimits}
 use Rattle.causal_trace.specs.Limits.{default_entries, restart_limit}
 use Rattle.causal_trace.specs.State.{with_entry}
 use Rattle.causal_trace.specs.Bounds.{IsBounded}
-
--- if a list of rows returns no error, its first row does not hold and the rest returns none
-pub nothing_told : (b : Bool) (f : TraceFault) (rest : Option TraceFault) → cond b (Some f) rest ≡ None → (b ≡ false) × (rest ≡ None)
-nothing_told true f rest h = absurd (let e : Some f ≡ None = h in cc)
-nothing_told false f rest h = (refl, h)
 
 -- an entry within the limits
 pub within_limits : (n : ℕ) (past : List Entry) (e : Entry) → first_fault n past e ≡ None → exceeds_any_limit past (length (listed_by e)) ≡ false

@@ -1,4 +1,4 @@
-use Rattle.std.proofs.Common.{ℕ, ◌<◌, ◌≤◌, ◌≡◌, length, get_or, set, arith}
+use Rattle.std.proofs.Common.{ℕ, ◌<◌, ◌≤◌, length, get_or, set, arith}
 use Rattle.std.proofs.Math.Seq.{map-set_same}
 use Rattle.causal_trace.specs.Inside.Chains.{least_room}
 use Rattle.causal_trace.proofs.Rooms.{room, least_at, least_each, least_grown, room_set, on_err}

@@ -1,5 +1,4 @@
 use Rattle.std.proofs.Common.{◌≡◌, ◌<◌, length, get_or, ap, arith}
-use Rattle.std.specs.Prelude.{◌-◌, vec_capacity, vec_len}
 use Rattle.std.proofs.Math.Seq.{map-set_same}
 use Rattle.std.proofs.lemmas.Bool.{cond-true, eq-eqb}
 use Rattle.std.proofs.lemmas.List.{map-set, get_or-map, length-map}
@@ -24,11 +23,8 @@ returns-in_err-push-clause-spare c =
 
 pub returns-in_err-push-clause-full : goal.returns-in_err-push-clause-full
 returns-in_err-push-clause-full c =
-    let d : After-index_mut-heads = (goal.at.returns-in_err-push-clause-full c).After-index_mut-heads in
-    let other = vec_capacity c.self.inside.nodes - vec_len c.self.inside.nodes in
-    let none : c.args.self.now.spare ≡ 0 =
-    omega (arith, ap (λ s. s.spare) c.self.view_is, here d, c.in_err-push.ensures.full, least_at c.self.inside.heads.items other c.args.message.source.0 c.index_mut-heads.result.now (inside d)) in
-    on_err c.from_residual.result none
+    let d = (goal.at.returns-in_err-push-clause-full c).After-index_mut-heads in
+    grind (arith, here d, least_at, inside d, on_err)
 
 pub returns-clause-heads : goal.returns-clause-heads
 returns-clause-heads c = grind (arith, get_or-map, inside, map-set, cond-true, eq-eqb)

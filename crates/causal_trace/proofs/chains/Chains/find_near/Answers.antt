@@ -1,13 +1,11 @@
-use Rattle.std.proofs.Common.{◌<◌, length, subst, arith}
+use Rattle.std.proofs.Common.{arith}
 use Rattle.std.proofs.lemmas.List.{reverse-reverse}
-use Rattle.causal_trace.specs.Inside.Chains.{IsPlaceBelow}
-use Rattle.causal_trace.proofs.ReceiptChains.{leads_on, below_higher}
+use Rattle.causal_trace.proofs.ReceiptChains.{leads_on}
 use Rattle.causal_trace.proofs.DeliveryPlaces.{place_on}
 use Rattle.causal_trace.proofs.chains.Chains.find_near.Goals as goal
-use Rattle.causal_trace.proofs.chains.Chains.find_near.Goals.{In-Some}
 
 pub returns-then-is_of_first : goal.returns-then-is_of_first
 returns-then-is_of_first c = grind (arith, reverse-reverse c.self.inside.nodes.items, place_on c.args.among c.args.det c.args.self.now.nodes, leads_on c.args.self.now.nodes)
 
 pub loop-preserved : goal.loop-preserved
-loop-preserved c = grind (arith, reverse-reverse c.self.inside.nodes.items, place_on c.args.among c.args.det c.args.self.now.nodes, leads_on c.args.self.now.nodes, below_higher)
+loop-preserved c = grind (arith, reverse-reverse c.self.inside.nodes.items, place_on c.args.among c.args.det c.args.self.now.nodes, leads_on c.args.self.now.nodes)

@@ -12,7 +12,7 @@ use Rattle.causal_trace.specs.Inside.SortedDeliveries.{AreDeliveries}
 use Rattle.causal_trace.proofs.Lemmas.WellFormed.{kept_push}
 use Rattle.causal_trace.proofs.Lemmas.Instants.{past_whole}
 use Rattle.causal_trace.proofs.LaneRecords.{subject_there, lanes_have_room, lanes_length}
-use Rattle.causal_trace.proofs.TraceIndex.{det_there, sender_there, indexed_push, restarts_few, deliveries_in_few}
+use Rattle.causal_trace.proofs.TraceIndex.{indexed_push, restarts_few, deliveries_in_few}
 use Rattle.causal_trace.proofs.trace.Trace.append.Goals as goal
 use Rattle.causal_trace.proofs.trace.Trace.append.Goals.{After-det_of_next-own}
 
@@ -27,7 +27,7 @@ kept : (c : After-det_of_next-own) → IsBounded (with_entry (record { processes
 kept c = kept_push _ c.args.entry _ c.self.invariant.kept (next c)
 
 pub receipt_lane-lane-requires : goal.receipt_lane-lane-requires
-receipt_lane-lane-requires c = grind (arith, common_steps, own_is, det_there)
+receipt_lane-lane-requires c = grind (arith, common_steps, own_is, subject_there, next)
 
 pub count_entry-requires-clause-there : goal.count_entry-requires-clause-there
 count_entry-requires-clause-there c = grind (arith, subject_there, next)
@@ -45,7 +45,7 @@ pub overflow_add-self-2 : goal.overflow_add-self-2
 overflow_add-self-2 c = grind (arith, kept)
 
 pub add_to_chains-requires-clause-sent : goal.add_to_chains-requires-clause-sent
-add_to_chains-requires-clause-sent c = grind (arith, sender_there, next)
+add_to_chains-requires-clause-sent c = grind (arith, subject_there, next)
 
 pub add_to_chains-requires-clause-delivered : goal.add_to_chains-requires-clause-delivered
 add_to_chains-requires-clause-delivered c = grind (arith, own_is ((goal.at.add_to_chains-requires-clause-delivered c).After-det_of_next-own))
