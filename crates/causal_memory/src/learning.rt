@@ -8,7 +8,7 @@ use causal_name::{Det, NoMemory, Pid};
 use std::alloc::Global;
 
 /// Adds to a log that p holds each of these determinants.
-#[tactic(auto, using(crate::proofs::Gathers::held_more, crate::proofs::Gathers::held_end))]
+#[tactic(auto, using(std::proofs::lemmas::List::drop_more, std::proofs::lemmas::List::drop_all), unfolding(causal_protocol::specs::Gathering::with_held))]
 pub fn learn_held(log: &mut Log, dets: &[Det], p: Pid) -> Result<(), NoMemory>
     ensures { OnOk result (log.new.map ≡ with_held dets.now p log.old.map) }
 {
@@ -19,7 +19,7 @@ pub fn learn_held(log: &mut Log, dets: &[Det], p: Pid) -> Result<(), NoMemory>
 }
 
 /// Adds to a log that p holds each of these determinants and that they are stable.
-#[tactic(auto, using(crate::proofs::Gathers::stable_more, crate::proofs::Gathers::stable_end))]
+#[tactic(auto, using(std::proofs::lemmas::List::drop_more, std::proofs::lemmas::List::drop_all), unfolding(causal_protocol::specs::Gathering::with_stored))]
 pub fn learn_stored(log: &mut Log, dets: &[Det], p: Pid) -> Result<(), NoMemory>
     ensures { OnOk result (log.new.map ≡ with_stored dets.now p log.old.map) }
 {
