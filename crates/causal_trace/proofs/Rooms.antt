@@ -1,7 +1,6 @@
 -- The least spare capacity of several lists.
 use Rattle.std.proofs.Common.{ℕ, zero, suc, ◌+◌, ◌-◌, ◌<◌, ◌≤◌, Vec, Global, List, [], ◌∷◌, length, get_or, set, Option, arith}
-use Rattle.std.proofs.Common.{Ok, Err}
-use Rattle.std.specs.Prelude.{vec_len, vec_capacity, OnErr, Result}
+use Rattle.std.specs.Prelude.{vec_len, vec_capacity}
 use Rattle.std.proofs.lemmas.List.{get_or-set_same, get_or-set_other}
 use Rattle.std.proofs.Math.Nat.{min-le_left, min-le_right, le-min}
 use Rattle.causal_trace.specs.Inside.Chains.{least_room}
@@ -49,8 +48,3 @@ least_more (list ∷ lists) other now h = le-min (min-le_left (room list) (least
 -- the first i + 1 lists have capacity n if the first i have it and the replaced list has
 pub room_set : (lists : List (Vec (Option ℕ) Global)) (i n : ℕ) (list : Vec (Option ℕ) Global) → i < length lists → n ≤ room list → ((k : ℕ) (d : Vec (Option ℕ) Global) → k < i → n ≤ room (get_or lists k d)) → (k : ℕ) (d : Vec (Option ℕ) Global) → k < i + 1 → n ≤ room (get_or (set lists i list) k d)
 room_set lists i n list inside here before k d h = grind (arith, get_or-set_same, get_or-set_other)
-
--- a fact holds, in particular, after an error
-pub on_err : {T E P : Type 0} (r : Result T E) → P → OnErr r P
-on_err (Ok v) p = tt
-on_err (Err e) p = p

@@ -19,8 +19,7 @@ module _ (limit : ℕ) where
   message_small (e ∷ past) send h = grind (arith, message_small past send h.1)
 
   det_of_small : (past : List Entry) (e : Entry) → EntriesAreBounded limit past → EntryIsBounded limit e → IfSome (det_of past e) (DetIsBounded limit)
-  det_of_small past (Deliver to send rsn listed) h k = grind (arith, message_small past send h)
-  det_of_small past e h k = tt
+  det_of_small past e h k = grind (arith, message_small past)
 
   delivered_small : (past : List Entry) (d : Det) → EntriesAreBounded limit past → is_delivered past d ≡ true → DetIsBounded limit d
   delivered_small [] d h t = absurd (false≢true t)

@@ -1,7 +1,7 @@
 use Rattle.std.proofs.Common.{ℕ, ◌<◌, ◌≤◌, length, get_or, set, arith}
 use Rattle.std.proofs.Math.Seq.{map-set_same}
 use Rattle.causal_trace.specs.Inside.Chains.{least_room}
-use Rattle.causal_trace.proofs.Rooms.{room, least_at, least_each, least_grown, room_set, on_err}
+use Rattle.causal_trace.proofs.Rooms.{room, least_at, least_each, least_grown, room_set}
 use Rattle.causal_trace.proofs.chains.reserve_each.Goals as goal
 use Rattle.causal_trace.proofs.chains.reserve_each.Goals.{After-reserve}
 
@@ -24,7 +24,7 @@ returns-in_err-reserve-clause-full c =
     let d : After-reserve = (goal.at.returns-in_err-reserve-clause-full c).After-reserve in
     let few : (other : ℕ) → least_room c.args.lists.now other < c.args.room = λ other.
     omega (arith, c.loop-list.invariant.grown other, least_at c.loop-list.lists other c.loop-list.list-index c.list-item.result (inside d), c.in_err-reserve.ensures.full, (get_or c.loop-list.lists c.loop-list.list-index c.list-item.result).ok.1) in
-    on_err c.from_residual.result few
+    grind (arith, few)
 
 pub loop-list-preserved : goal.loop-list-preserved
 loop-list-preserved c = grind (arith, map-set_same, grown, room_set, inside)

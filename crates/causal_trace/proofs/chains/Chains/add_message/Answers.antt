@@ -2,7 +2,7 @@ use Rattle.std.proofs.Common.{◌≡◌, ◌<◌, length, get_or, ap, arith}
 use Rattle.std.proofs.Math.Seq.{map-set_same}
 use Rattle.std.proofs.lemmas.Bool.{cond-true, eq-eqb}
 use Rattle.std.proofs.lemmas.List.{map-set, get_or-map, length-map}
-use Rattle.causal_trace.proofs.Rooms.{room, least_at, least_set, on_err}
+use Rattle.causal_trace.proofs.Rooms.{room, least_at, least_set}
 use Rattle.causal_trace.proofs.chains.Chains.add_message.Goals as goal
 use Rattle.causal_trace.proofs.chains.Chains.add_message.Goals.{After-index_mut-heads}
 
@@ -14,7 +14,7 @@ here : (c : After-index_mut-heads) → room c.index_mut-heads.result.now ≡ roo
 here c = ap room c.index_mut-heads.ensures.value
 
 pub returns-in_err-push-clause-same : goal.returns-in_err-push-clause-same
-returns-in_err-push-clause-same c = grind (arith, map-set_same, on_err)
+returns-in_err-push-clause-same c = grind (arith, map-set_same)
 
 pub returns-in_err-push-clause-spare : goal.returns-in_err-push-clause-spare
 returns-in_err-push-clause-spare c =
@@ -24,7 +24,7 @@ returns-in_err-push-clause-spare c =
 pub returns-in_err-push-clause-full : goal.returns-in_err-push-clause-full
 returns-in_err-push-clause-full c =
     let d = (goal.at.returns-in_err-push-clause-full c).After-index_mut-heads in
-    grind (arith, here d, least_at, inside d, on_err)
+    grind (arith, here d, least_at, inside d)
 
 pub returns-clause-heads : goal.returns-clause-heads
 returns-clause-heads c = grind (arith, get_or-map, inside, map-set, cond-true, eq-eqb)

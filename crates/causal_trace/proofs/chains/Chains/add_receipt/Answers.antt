@@ -2,14 +2,14 @@ use Rattle.std.proofs.Common.{◌<◌, Some, length, ap, arith}
 use Rattle.std.specs.Prelude.{◌-◌, vec_capacity, vec_len}
 use Rattle.std.specs.Vec.{with_item}
 use Rattle.std.proofs.lemmas.List.{map-set, get_or-map, length-map, length-reverse}
-use Rattle.causal_trace.proofs.Rooms.{least_falls, least_other, room, least_set, on_err}
+use Rattle.causal_trace.proofs.Rooms.{least_falls, least_other, room, least_set}
 use Rattle.causal_trace.proofs.chains.Chains.add_receipt.Goals as goal
 
 pub returns-in_err-push-clause-spare : goal.returns-in_err-push-clause-spare
 returns-in_err-push-clause-spare c = grind (arith, least_falls)
 
 pub returns-in_err-push-clause-full : goal.returns-in_err-push-clause-full
-returns-in_err-push-clause-full c = grind (arith, least_other, on_err)
+returns-in_err-push-clause-full c = grind (arith, least_other)
 
 pub returns-clause-heads : goal.returns-clause-heads
 returns-clause-heads c = grind (arith, length-map, get_or-map, length-reverse, map-set)
