@@ -37,6 +37,15 @@ impl<'a> Model for ParsedChunk<'a> {
     ghost invariant = { λ chunk. AreParsed chunk.lines.items };
 }
 
+/// About how long the shortest line of an entry is, in bytes.
+const SHORTEST: usize = 14;
+
+/// Returns how many complete lines these bytes have, but no more than entries have room in them.
+fn count_lines(bytes: &[u8]) -> usize {
+    let feeds = bytes.iter().filter(|byte| **byte == b'\n').count();
+    feeds.min(bytes.len() / SHORTEST)
+}
+
 /// Parses the complete lines of a chunk, up to the first with an error. Needs nothing of the text before it, so several
 /// threads can parse chunks at the same time; [`PushReader::feed_parsed`](crate::PushReader::feed_parsed) then reads
 /// them in order. O(bytes) time; about 5 times the chunk's size in memory.
@@ -46,7 +55,7 @@ impl<'a> Model for ParsedChunk<'a> {
 pub fn parse_chunk(alloc: Global, bytes: &[u8]) -> Result<ParsedChunk<'_>, NoMemory>
     ensures { IfOk result (λ chunk. chunk ≡ bytes.now) }
 {
-    let mut lines = Vec::new(alloc);
+    let mut lines = Vec::with_capacity(alloc, count_lines(bytes))?;
     let mut rest = bytes;
     while let Some((line, after)) = split_complete(rest) {
         let parsed = parse_line(alloc, line);
