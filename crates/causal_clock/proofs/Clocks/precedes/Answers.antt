@@ -2,8 +2,7 @@ use Rattle.std.proofs.Common.{sym}
 use Rattle.causal_clock.specs.Timeline.{lane_place}
 use Rattle.causal_clock.specs.Precedence.{Precedes, FirstReach}
 use Rattle.causal_clock.specs.Inside.Fields.{events_of}
-use Rattle.causal_clock.proofs.Entries.{tells_event}
-use Rattle.causal_clock.proofs.Moves.{told_by_place}
+use Rattle.causal_clock.proofs.Fields.{tells_event, told_by_place}
 use Rattle.causal_clock.proofs.Clocks.precedes.Goals as goal
 
 pub returns : goal.returns
