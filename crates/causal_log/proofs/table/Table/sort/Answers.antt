@@ -4,7 +4,7 @@ use Rattle.std.specs.Map.{values_of}
 use Rattle.causal_log.specs.Logs.{log_of}
 use Rattle.causal_log.specs.Inside.Tables.{HasSlotKey, IsNotLater}
 use Rattle.causal_log.proofs.EntryLemmas.{moved_log, moved_ascend, still_distinct}
-use Rattle.causal_log.proofs.SlotKeyLemmas.{values_sorted}
+use Rattle.causal_log.proofs.TableLemmas.{values_sorted}
 use Rattle.causal_log.proofs.table.Table.sort.Goals as goal
 
 pub invariant_of-self-2 : goal.invariant_of-self-2

@@ -1,6 +1,6 @@
 use Rattle.std.proofs.Common.{◌≡◌, ◌∙◌, All, false, subst}
 use Rattle.causal_log.specs.Inside.Tables.{IsNotLater, is_later}
-use Rattle.causal_log.proofs.SlotKeyLemmas.{all_keys}
+use Rattle.causal_log.proofs.TableLemmas.{all_keys}
 use Rattle.causal_log.proofs.table.Table.watch.Goals as goal
 
 pub invariant_of-self : goal.invariant_of-self
