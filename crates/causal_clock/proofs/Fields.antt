@@ -1,5 +1,5 @@
 -- The lists of lanes and places that a clock's entries represent, and the invariant of a clock after each call.
-use Rattle.std.specs.Prelude.{◌≡◌, ◌≢◌, ℕ, ◌+◌, ◌<◌, ◌≤◌, ◌↔◌, nat_lt, ◌==◌, if◌then◌else◌, IsTrue, Option, Some, None, List, [], ◌∷◌, ◌++◌, length, map, slice_index}
+use Rattle.std.specs.Prelude.{◌≡◌, ◌≢◌, ℕ, ◌+◌, ◌<◌, ◌≤◌, ◌==◌, if◌then◌else◌, Option, Some, None, List, [], ◌∷◌, ◌++◌, length, map, slice_index}
 use Rattle.std.proofs.Common.{suc, refl, arith, ap, sym, ◌∙◌, subst, get_or, length-append}
 use Rattle.std.proofs.Math.ListN.{set, get_or-eq_default, length-set}
 use Rattle.std.proofs.lemmas.Bool.Decides.{leb_tells, eqb_tells}
@@ -73,10 +73,6 @@ lengths_in xs = map (λ x. x.events) xs
 
 abbrev pub columns_in : List LaneColumns → ℕ → ℕ → List Rise
 columns_in xs = column_of (map rises_in xs)
-
--- the test of `precedes`
-pub told_by_place : (a n place : ℕ) (P : Type 0) → P ↔ (place < n) → a ≡ place → IsTrue (nat_lt a n) ↔ P
-told_by_place a n place P both is = grind arith
 
 -- one more lane
 pub keeps_opened : (es : List Event) (places : List ℕ) (xs ys : List LaneColumns) (x : LaneColumns) → ys ≡ xs ++ x ∷ [] → x.events ≡ 0 → rises_in x ≡ [] → ColumnsAreRight es places (lengths_in xs) (columns_in xs) → ColumnsAreRight es places (lengths_in ys) (columns_in ys)
