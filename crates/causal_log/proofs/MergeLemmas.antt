@@ -321,23 +321,20 @@ in_its_place f det known xs n within = grind (arith, length-take-le n xs within,
 
 -- the own determinant is added at the first item that does not come before it
 module _ (f : ℕ) (log : LogMap) (own : Det) (news : Known) (xs : List Item) (place : ℕ) (is : xs ≡ batch_items f log) (before : is_ascending (dets_of (take place xs) ++ own ∷ []) ≡ true) (next : IfSome (slice_get xs place) (λ item. is_before item.det own ≡ false)) where
-  split : take place xs ++ drop place xs ≡ batch_items f log
-  split = take-append-drop place xs ∙ is
-
   after_own : IfSome (slice_get xs place) (λ item. same_det item.det own ≡ false) → is_ascending (own ∷ dets_of (drop place xs)) ≡ true
-  after_own apart = next_after xs place own (rest_ascends f log (take place xs) (drop place xs) split) next apart
+  after_own apart = next_after xs place own (rest_ascends f log (take place xs) (drop place xs) (take-append-drop place xs ∙ is)) next apart
 
   -- an item of it is replaced by what is known afterwards, if that is carried
   pub own_met : (item : Item) → slice_get xs place ≡ Some item → item.det ≡ own → with_carried f own (union_with (known_of_item item) news) (take place xs) ++ drop (place + 1) xs ≡ batch_items f (after_learn log own news)
-  own_met item there same = grind (arith, met, drop_got, split)
+  own_met item there same = grind (arith, met, drop_got, take-append-drop)
 
   -- it is not added if it is logged
   pub own_out : IfSome (slice_get xs place) (λ item. same_det item.det own ≡ false) → is_some (fin.get log own) ≡ true → xs ≡ batch_items f (after_learn log own news)
-  own_out apart there = grind (arith, take-append-drop, logged_out, split, after_own)
+  own_out apart there = sym (take-append-drop place xs) ∙ logged_out f log own news (take place xs) (drop place xs) (take-append-drop place xs ∙ is) before (after_own apart) there
 
   -- otherwise it is added
   pub own_in : IfSome (slice_get xs place) (λ item. same_det item.det own ≡ false) → is_some (fin.get log own) ≡ false → with_carried f own (union_with unknown news) (take place xs) ++ drop place xs ≡ batch_items f (after_learn log own news)
-  own_in apart new = comes_in f log own news (take place xs) (drop place xs) split before (after_own apart) new
+  own_in apart new = comes_in f log own news (take place xs) (drop place xs) (take-append-drop place xs ∙ is) before (after_own apart) new
 
 -- a union with holders that are known adds nothing
 holders_in : (s t : set.FinSet nat_cmp) → set.is_subset s t ≡ true → set.union t s ≡ t
@@ -345,11 +342,7 @@ holders_in s t h = set.same_set nat_cmp_total set.nat_cmp-IsAntisymmetric _ _ (�
 
 -- learning of holders that are known changes nothing
 pub learned_known : (log : LogMap) (det : Det) (news : Known) → news.stable ≡ false → are_known_to_hold log det news.holders ≡ true → after_learn log det news ≡ log
-learned_known log det news plain = by (fin.get log det) refl
-  where
-    by : (o : Option Known) → fin.get log det ≡ o → option_map_or (λ known. set.is_subset news.holders known.holders) o false ≡ true → after_learn log det news ≡ log
-    by None is h = absurd (true≢false (sym h))
-    by (Some known) is h = fin.same_map dets_total exact_dets (after_learn log det news) log (λ q. grind (arith, get_learned log det news q, holders_in news.holders known.holders h, same_is q det))
+learned_known log det news plain known = fin.same_map dets_total exact_dets (after_learn log det news) log (λ q. grind (arith, get_learned log det news q, holders_in, same_is q det))
 
 -- absorbing items whose holders are all known changes nothing
 pub absorbed_known : (from me : Pid) (items : List Item) (log : LogMap) → list_all (λ item. are_known_to_hold log item.det (knowledge_from_item from me item).1.holders) items ≡ true → after_absorb items from me log ≡ log

@@ -30,10 +30,7 @@ carried_dets f log det = grind (arith, any_kept, and_comm, any_logged (is_carrie
 -- a carried determinant is sent with its known holders
 pub carried_holders : (f : ℕ) (log : LogMap) (det : Det) (p : ℕ) →
     list_any (λ item. same_det det item.det && set.contains item.holders p) (batch_items f log) ≡ (is_in_batch f (fin.get log det) && set.contains (known_of log det).holders p)
-carried_holders f log det p =
-    any_kept item_of (λ e. is_carried f e.1) (λ item. same_det det item.det && set.contains item.holders p) (λ e. same_det det e.0 && (is_carried f e.1 && set.contains e.1.holders p)) (λ e. swap_first (is_carried f e.1) (same_det det e.0) (set.contains e.1.holders p)) (fin.entries log)
-    ∙ any_logged (λ k. is_carried f k && set.contains k.holders p) det log
-    ∙ held f p (fin.get log det)
+carried_holders f log det p = grind (arith, any_kept, swap_first, any_logged (λ k. is_carried f k && set.contains k.holders p) det log, held f p (fin.get log det))
 
 -- a logged determinant that is not carried is known to be stable or has more than f known holders
 pub left_out : (f : ℕ) (log : LogMap) (det : Det) (known : Known) → fin.get log det ≡ Some known →
