@@ -1,5 +1,5 @@
 -- The items of a log that a message carries.
-use Rattle.std.proofs.Common.{◌≡◌, ◌∙◌, ◌<◌, ◌⊎◌, ℕ, ◌&&◌, Bool, true, false, Option, Some, unwrap_or, arith}
+use Rattle.std.proofs.Common.{◌≡◌, ◌<◌, ◌⊎◌, ℕ, ◌&&◌, Bool, true, false, Option, Some, unwrap_or, arith}
 use Rattle.std.proofs.Math.Bool.{and_comm}
 use Rattle.std.proofs.lemmas.Bool.Decides.{nat_tests}
 use Rattle.std.specs.FinMap as fin
@@ -9,7 +9,7 @@ use Rattle.causal_name.specs.declared.Det.{Det}
 use Rattle.causal_name.specs.Names.{same_det}
 use Rattle.causal_log.specs.declared.known.Known.{Known}
 use Rattle.causal_log.specs.Knowledge.{unknown, is_carried}
-use Rattle.causal_log.specs.Logs.{LogMap, known_of, item_of, is_in_batch, batch_items}
+use Rattle.causal_log.specs.Logs.{LogMap, known_of, is_in_batch, batch_items}
 use Rattle.causal_log.proofs.Lemmas.Searches.{any_kept, any_logged, passes}
 
 -- the second of three conditions can be checked first
