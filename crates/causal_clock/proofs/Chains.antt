@@ -1,29 +1,27 @@
 -- How one more event changes which events reach which.
-use Rattle.std.specs.Prelude.{◌≡◌, ◌≢◌, ℕ, ◌+◌, ◌<◌, ◌≤◌, max, ◌⊎◌, ◌==◌, if◌then◌else◌, Option, Some, List, [], ◌∷◌, ◌++◌, length}
-use Rattle.std.proofs.Common.{refl, arith, ap, sym, ◌∙◌, subst, inl, inr, get_or, length-append}
+use Rattle.std.specs.Prelude.{◌≡◌, ◌≢◌, ℕ, ◌+◌, ◌<◌, ◌≤◌, max, ◌↔◌, ◌⊎◌, ◌==◌, if◌then◌else◌, Option, Some, List, [], ◌∷◌, ◌++◌, length}
+use Rattle.std.proofs.Common.{refl, arith, ap, ◌∙◌, inl, length-append}
 use Rattle.std.proofs.Math.ListN.{get_or-append}
 use Rattle.std.proofs.Math.Seq.{get_or-append_seam, take-append_seam}
 use Rattle.std.proofs.lemmas.List.{take-append-le}
 use Rattle.std.proofs.lemmas.List.Sums.{sum_by-append}
 use Rattle.causal_clock.specs.declared.Event.{Event}
 use Rattle.causal_clock.specs.Timeline.{lane_of, sending_event, lane_length, lane_place}
-use Rattle.causal_clock.specs.Precedence.{DirectlyPrecedes, Precedes, itself, onward, FirstReach}
+use Rattle.causal_clock.specs.Precedence.{DirectlyPrecedes, Precedes, itself, onward, IsReachedThrough, FirstReach}
 use Rattle.causal_clock.specs.Inside.EventCounts.{LastOf}
 
 -- ---- a list with one more event
 
-old_event : (es : List Event) (e : Event) (i : ℕ) (d : Event) → i < length es → get_or (es ++ e ∷ []) i d ≡ get_or es i d
-old_event es e i d h = get_or-append es (e ∷ []) d i h
-
 -- the lane of an older event is unchanged
 pub lane_of-old : (es : List Event) (e : Event) (i : ℕ) → i < length es → lane_of (es ++ e ∷ []) i ≡ lane_of es i
-lane_of-old es e i h = ap (λ (x : Event). x.lane) (old_event es e i _ h)
+lane_of-old es e i h = ap (λ (x : Event). x.lane) (get_or-append es (e ∷ []) _ i h)
 
 pub send_of-old : (es : List Event) (e : Event) (i : ℕ) → i < length es → sending_event (es ++ e ∷ []) i ≡ sending_event es i
-send_of-old es e i h = ap (λ (x : Event). x.send) (old_event es e i _ h)
+send_of-old es e i h = ap (λ (x : Event). x.send) (get_or-append es (e ∷ []) _ i h)
 
-pub lane_of-new : (es : List Event) (e : Event) → lane_of (es ++ e ∷ []) (length es) ≡ e.lane
-lane_of-new es e = ap (λ (x : Event). x.lane) (get_or-append_seam es e [] _)
+-- the lane at the newest index is the newest event's
+pub lane_of-new : (es : List Event) (e : Event) (i : ℕ) → i ≡ length es → lane_of (es ++ e ∷ []) i ≡ e.lane
+lane_of-new es e i is = ap (lane_of (es ++ e ∷ [])) is ∙ ap (λ (x : Event). x.lane) (get_or-append_seam es e [] _)
 
 pub send_of-new : (es : List Event) (e : Event) → sending_event (es ++ e ∷ []) (length es) ≡ e.send
 send_of-new es e = ap (λ (x : Event). x.send) (get_or-append_seam es e [] _)
@@ -66,6 +64,22 @@ pub reaches_new : (es : List Event) (e : Event) {i k : ℕ} → k ≡ length es 
 reaches_new es e is (itself h) = inl refl
 reaches_new es e is (onward {j = j} {k = k} c d) = grind (arith, reaches_back, lane_of-old, lane_of-new, send_of-new)
 
+-- the newest event is reached from itself
+pub reaches_itself : (es : List Event) (e : Event) (i : ℕ) → i ≡ length es → Precedes (es ++ e ∷ []) i (length es)
+reaches_itself es e i is = rw is (itself {i = length es} (omega (arith, length-more es e)))
+
+-- the newest event is reached from what reaches an event of its lane or its send
+pub reaches_into : (es : List Event) (e : Event) (i j : ℕ) → Precedes es i j → (lane_of es j ≡ e.lane) ⊎ (e.send ≡ Some j) → Precedes (es ++ e ∷ []) i (length es)
+reaches_into es e i j c because = onward (reaches_old e c) (grind (arith, reaches_forward c, length-more, lane_of-old, lane_of-new, send_of-new))
+
+-- older events are reached from the same events as before
+pub older : (es : List Event) (e : Event) (i j : ℕ) → j < length es → Precedes (es ++ e ∷ []) i j ↔ Precedes es i j
+older es e i j below = (reaches_back es e below, reaches_old e)
+
+-- the newest event is reached from itself, and from what reaches an event of its lane or its send
+pub newest : (es : List Event) (e : Event) (i : ℕ) → Precedes (es ++ e ∷ []) i (length es) ↔ IsReachedThrough es e i
+newest es e i = (reaches_new es e refl, λ r. grind (arith, reaches_itself, reaches_into))
+
 -- ---- places
 
 -- one more event makes its lane longer by one, and no other lane
@@ -78,23 +92,11 @@ lane_place-old es e i h = grind (arith, take-append-le, lane_of-old)
 
 -- the newest event's place is the number of events that its lane had
 pub lane_place-new : (es : List Event) (e : Event) (i : ℕ) → i ≡ length es → lane_place (es ++ e ∷ []) i ≡ lane_length es e.lane
-lane_place-new es e i is = ap (lane_place (es ++ e ∷ [])) is ∙ (λ k. lane_length (take-append_seam es (e ∷ []) k) (lane_of-new es e k))
-
--- the lane at the newest index is the newest event's
-pub lane_of-at_new : (es : List Event) (e : Event) (i : ℕ) → i ≡ length es → lane_of (es ++ e ∷ []) i ≡ e.lane
-lane_of-at_new es e i is = ap (lane_of (es ++ e ∷ [])) is ∙ lane_of-new es e
+lane_place-new es e i is = ap (lane_place (es ++ e ∷ [])) is ∙ (λ k. lane_length (take-append_seam es (e ∷ []) k) (lane_of-new es e _ refl k))
 
 -- each event is an older one or the newest
 pub old_or_new : (es : List Event) (e : Event) (i : ℕ) → i < length (es ++ e ∷ []) → (i < length es) ⊎ (i ≡ length es)
 old_or_new es e i h = grind (arith, length-more)
-
--- equal numbers count as one
-pub one_at_same : (a b : ℕ) → a ≡ b → ◌≡◌ {A = ℕ} (if a == b then 1 else 0) 1
-one_at_same a b h = grind arith
-
--- different numbers count as none
-pub one_at_other : (a b : ℕ) → a ≢ b → ◌≡◌ {A = ℕ} (if a == b then 1 else 0) 0
-one_at_other a b h = grind arith
 
 -- ---- an older event is reached from the same events
 
@@ -102,7 +104,7 @@ one_at_other a b h = grind arith
 pub first_old : (es : List Event) (e : Event) (j lane n : ℕ) → j < length es → FirstReach es j lane n → FirstReach (es ++ e ∷ []) j lane n
 first_old es e j lane n below f =
     let own : e.lane ≡ lane → lane_length es e.lane ≡ lane_length es lane = λ same. ap (lane_length es) same in
-    grind (arith, own, lane_length-more es e lane, old_or_new es e, lane_of-old, lane_place-old, lane_place-new, lane_of-at_new, reaches_back es e, reaches_old {es = es} e, reaches_forward)
+    grind (arith, own, lane_length-more es e lane, old_or_new es e, lane_of-old, lane_place-old, lane_place-new, lane_of-new, reaches_back es e, reaches_old {es = es} e, reaches_forward)
 
 -- ---- the newest event
 
@@ -115,38 +117,20 @@ pub record FirstReachSome (es : List Event) (event : Option ℕ) (lane n : ℕ) 
   -- only the first n reach it
   pub forth : (i j : ℕ) → i < length es → lane_of es i ≡ lane → event ≡ Some j → Precedes es i j → lane_place es i < n
 
--- an older event of the newest event's lane directly precedes it
-pub by_lane : (es : List Event) (e : Event) (p : ℕ) → p < length es → lane_of es p ≡ e.lane → DirectlyPrecedes (es ++ e ∷ []) p (length es)
-by_lane es e p lt same = record { earlier = lt; within = omega (arith, length-more es e); because = inl (lane_of-old es e p lt ∙ same ∙ sym (lane_of-new es e)) }
-
--- the send of the newest event directly precedes it
-pub by_send : (es : List Event) (e : Event) (s : ℕ) → s < length es → e.send ≡ Some s → DirectlyPrecedes (es ++ e ∷ []) s (length es)
-by_send es e s lt sent = record { earlier = lt; within = omega (arith, length-more es e); because = inr (send_of-new es e ∙ sent) }
-
 module _ (es : List Event) (e : Event) (previous : Option ℕ) (last : LastOf es previous e.lane) (from_previous from_send lane : ℕ) (along : FirstReachSome es previous lane from_previous) (across : FirstReachSome es e.send lane from_send) where
   reaches_it : (i : ℕ) → i < length es → lane_of es i ≡ lane → (lane_place es i < from_previous) ⊎ (lane_place es i < from_send) → Precedes (es ++ e ∷ []) i (length es)
-  reaches_it i lt of_lane h =
-      elim h [
-        | inl p ↦
-            let b = along.back i lt of_lane p in
-            let at = last.inside b.0 b.1 in
-            onward (reaches_old e b.2) (by_lane es e b.0 at.0 at.1)
-        | inr p ↦
-            let b = across.back i lt of_lane p in
-            onward (reaches_old e b.2) (by_send es e b.0 (reaches_forward b.2).1 b.1)
-      ]
+  reaches_it i lt of_lane h = grind (arith, along.back, across.back, last.inside, reaches_into)
 
   counted : (i : ℕ) → i < length es → lane_of es i ≡ lane → Precedes (es ++ e ∷ []) i (length es) → lane_place es i < max from_previous from_send
   counted i lt of_lane c = grind (arith, reaches_new, reaches_forward, reaches_through)
 
   -- for another lane: the greater of the two counts
   pub first_new_other : lane ≢ e.lane → FirstReach (es ++ e ∷ []) (length es) lane (max from_previous from_send)
-  first_new_other other = grind (arith, lane_length-more es e lane, old_or_new, lane_place-old, lane_of-old, counted, reaches_it, lane_of-at_new)
+  first_new_other other = grind (arith, lane_length-more es e lane, old_or_new, lane_place-old, lane_of-old, counted, reaches_it, lane_of-new)
 
   -- for the event's lane: one more
-  pub first_new_own : lane ≡ e.lane → lane_length es lane ≤ from_previous → FirstReach (es ++ e ∷ []) (length es) lane (max from_previous from_send + 1)
+  pub first_new_own : lane ≡ e.lane → lane_length es lane ≤ from_previous → FirstReach (es ++ e ∷ []) (length es) lane (lane_length es lane + 1)
   first_new_own own full =
       let older : (i : ℕ) → i < length es → lane_of es i ≡ lane → lane_place es i < from_previous = λ i lt of_lane. let up = last.reached i lt (of_lane ∙ own) in along.forth i up.0 lt of_lane up.1 up.2 in
-      let newest : (i : ℕ) → i ≡ length es → Precedes (es ++ e ∷ []) i (length es) = λ i is. subst (λ (x : ℕ). Precedes (es ++ e ∷ []) x (length es)) (sym is) (itself (omega (arith, length-more es e))) in
       let same = ap (lane_length es) own in
-      grind (arith, older, newest, same, lane_length-more es e lane, one_at_same, old_or_new, lane_place-old, lane_of-old, lane_place-new, counted, reaches_it, along.no_more, across.no_more)
+      grind (arith, older, reaches_itself, same, lane_length-more es e lane, old_or_new, lane_place-old, lane_of-old, lane_place-new, counted, reaches_it, along.no_more, across.no_more)

@@ -1,17 +1,18 @@
--- The count of a column at a place, and what one more rise changes.
+-- The count of a column at a place, what one more rise changes, and the row of a lane's last counts.
 use Rattle.std.proofs.lemmas.Grind.{common_steps}
-use Rattle.std.specs.Prelude.{◌≡◌, ℕ, ◌+◌, ◌-◌, ◌<◌, ◌≤◌, max, ◌⊎◌, leb, if◌then◌else◌, true, false, List, [], ◌∷◌, ◌++◌, length, take, drop}
-use Rattle.std.proofs.Common.{zero, suc, refl, arith, ap, sym, ◌∙◌, subst, length-append}
+use Rattle.std.specs.Prelude.{◌≡◌, ℕ, ◌+◌, ◌-◌, ◌<◌, ◌≤◌, max, ◌⊎◌, leb, if◌then◌else◌, true, false, List, [], ◌∷◌, ◌++◌, length, drop, slice_index}
+use Rattle.std.proofs.Common.{zero, suc, refl, arith, ap, sym, ◌∙◌, get_or, length-append}
 use Rattle.std.proofs.Math.ListN.{get_or-append}
 use Rattle.std.proofs.Math.Seq.{get_or-append_seam}
 use Rattle.std.proofs.lemmas.Bool.{le-leb, lt-ltb, lt-leb, leb-true, leb-false}
 use Rattle.std.proofs.lemmas.Bool.Decides.{leb_tells}
 use Rattle.std.specs.List.Sorted.{IsPartitionPoint, IsPartitionedBy}
 use Rattle.std.proofs.lemmas.List.Sorted.{IsPartitionedBy-leb, IsNonDecreasingBy-from_default}
-use Rattle.std.proofs.lemmas.List.{get_or-drop, length-drop, take_all}
+use Rattle.std.proofs.lemmas.List.{get_or-drop, get_or_default, length-drop}
 use Rattle.causal_clock.specs.declared.Rise.{Rise}
 use Rattle.causal_clock.specs.Rises.{rise_at, count_at, RisesStrictly}
-use Rattle.causal_clock.specs.Inside.Columns.{IsSplitAt, IsColumn, SameOrNoNews, column_after}
+use Rattle.causal_clock.specs.Inside.Columns.{IsSplitAt, IsColumn, SameOrNoNews, column_after, column_in}
+use Rattle.causal_clock.specs.Inside.Row.{RowMatchesColumns}
 use Rattle.causal_clock.proofs.Lemmas.RiseCounts.{rise_counts, count_risen}
 
 -- ---- the count at a place
@@ -40,13 +41,15 @@ settled (r ∷ rises) p q h =
 pub up_to : (rises : List Rise) (place n i : ℕ) → RisesStrictly rises → n < length rises → (rise_at rises n).place ≤ place → i ≤ n → (rise_at rises i).place ≤ place
 up_to rises place n i strictly lt le before = grind arith
 
-partitioned : (rises : List Rise) (place start : ℕ) → RisesStrictly rises → IsPartitionedBy (λ y. leb y.place place) (drop start rises)
+-- the rises from `start` on have those at or before a place first
+pub partitioned : (rises : List Rise) (place start : ℕ) → RisesStrictly rises → IsPartitionedBy (λ y. leb y.place place) (drop start rises)
 partitioned rises place start strictly = IsPartitionedBy-leb (λ y. y.place) (drop start rises) place (IsNonDecreasingBy-from_default (λ y. y.place) (drop start rises) _ ascend)
   where
     ascend : (i j : ℕ) → i ≤ j → j < length (drop start rises) → (rise_at (drop start rises) i).place ≤ (rise_at (drop start rises) j).place
     ascend i j le lt = grind (arith, get_or-drop, length-drop)
 
-parted : (rises : List Rise) (place start n : ℕ) → start ≤ length rises → ((i : ℕ) → i < start → (rise_at rises i).place ≤ place) → IsPartitionPoint (λ y. leb y.place place ≡ true) (λ y. leb y.place place ≡ false) (drop start rises) n → n ≤ length (drop start rises) → IsSplitAt rises place (start + n)
+-- if the tail splits after n rises, the column splits n after `start`
+pub parted : (rises : List Rise) (place start n : ℕ) → start ≤ length rises → ((i : ℕ) → i < start → (rise_at rises i).place ≤ place) → IsPartitionPoint (λ y. leb y.place place ≡ true) (λ y. leb y.place place ≡ false) (drop start rises) n → n ≤ length (drop start rises) → IsSplitAt rises place (start + n)
 parted rises place start n inside passed point bound = record { inside = omega (arith, bound, long); before = before; after = after }
   where
     long : length (drop start rises) ≡ length rises - start
@@ -63,25 +66,7 @@ parted rises place start n inside passed point bound = record { inside = omega (
     after : (i : ℕ) → start + n ≤ i → i < length rises → place < (rise_at rises i).place
     after i le lt = omega (arith, place_is i (omega (arith, le)), leb-false _ _ (point.1 (i - start) (record { place = 0; count = 0 }) (omega (arith, le)) (omega (arith, lt, long, le))))
 
--- the lemma for the slice from `start` on
-pub tail_is : (rises : List Rise) (start : ℕ) → take (length rises - start) (drop start rises) ≡ drop start rises
-tail_is rises start = take_all (length rises - start) (drop start rises) (omega (arith, length-drop start rises))
-
--- the rises from `start` on have those at or before a place first
-pub tail_partitioned : (rises : List Rise) (place start : ℕ) → RisesStrictly rises → IsPartitionedBy (λ y. leb y.place place) (take (length rises - start) (drop start rises))
-tail_partitioned rises place start strictly = subst (IsPartitionedBy (λ y. leb y.place place)) (sym (tail_is rises start)) (partitioned rises place start strictly)
-
--- if the tail splits after n rises, the column splits n after `start`
-pub tail_parted : (rises : List Rise) (place start n : ℕ) → start ≤ length rises → ((i : ℕ) → i < start → (rise_at rises i).place ≤ place) → IsPartitionPoint (λ y. leb y.place place ≡ true) (λ y. leb y.place place ≡ false) (take (length rises - start) (drop start rises)) n → n ≤ length (take (length rises - start) (drop start rises)) → IsSplitAt rises place (start + n)
-tail_parted rises place start n inside passed point bound =
-    parted rises place start n inside passed
-    (subst (λ (l : List Rise). IsPartitionPoint (λ y. leb y.place place ≡ true) (λ y. leb y.place place ≡ false) l n) (tail_is rises start) point)
-    (subst (λ (l : List Rise). n ≤ length l) (tail_is rises start) bound)
-
 -- ---- one more rise
-
-raised_cases : (rises : List Rise) (place count : ℕ) → ((column_after rises place count ≡ rises ++ record { place = place; count = count } ∷ []) × (count_at rises place < count)) ⊎ ((column_after rises place count ≡ rises) × (count ≤ count_at rises place))
-raised_cases rises place count = grind arith
 
 -- a greater count than the one at the place adds a rise
 pub raised_more : (rises : List Rise) (place count : ℕ) → count_at rises place < count → column_after rises place count ≡ rises ++ record { place = place; count = count } ∷ []
@@ -95,14 +80,6 @@ raised_alike rises place known count other is alike = grind arith
 pub count_at-later : (rises : List Rise) (p q : ℕ) → p ≤ q → count_at rises p ≤ count_at rises q
 count_at-later [] p q le = omega arith
 count_at-later (r ∷ rises) p q le = grind (arith, le-leb, count_at-later rises p q le)
-
--- the count from one more rise on
-pub count_at-risen : (rises : List Rise) (place count q : ℕ) → place ≤ q → count_at (rises ++ record { place = place; count = count } ∷ []) q ≡ max (count_at rises q) count
-count_at-risen rises place count q le = count_at-append rises _ q ∙ omega (arith, ap (λ b. if b then count else 0) (le-leb place q le))
-
--- a count of 0 adds no rise
-pub raised_none : (rises : List Rise) (place : ℕ) → column_after rises place 0 ≡ rises
-raised_none rises place = grind arith
 
 -- before its place, a rise changes no count
 pub raised_before : (rises : List Rise) (place count q : ℕ) → q < place → count_at (column_after rises place count) q ≡ count_at rises q
@@ -156,4 +133,22 @@ module _ (rises : List Rise) (own from_events from_events' count : ℕ) (is : Is
 -- a column after one more event of its lane
 pub raised_column : (rises : List Rise) (own from_events from_events' count : ℕ) → from_events ≤ from_events' → count ≤ from_events' → IsColumn rises own from_events → IsColumn (column_after rises own count) (own + 1) from_events'
 raised_column rises own from_events from_events' count grown few is =
-    grind (arith, raised_cases rises own count, appended rises own from_events from_events' count is grown few, column_more rises own from_events (own + 1) from_events')
+    grind (arith, appended rises own from_events from_events' count is grown few, column_more rises own from_events (own + 1) from_events')
+
+-- ---- the row of a lane's last counts
+
+-- the row is right for columns with the same counts
+pub row_same : (events last : ℕ) (columns columns' : List (List Rise)) (row row' : List ℕ) → ((source : ℕ) → column_in columns' source ≡ column_in columns source) → ((k : ℕ) → slice_index row' k ≡ slice_index row k) → RowMatchesColumns events last columns row → RowMatchesColumns events last columns' row'
+row_same events last columns columns' row row' same counts k = grind arith
+
+-- no place has a greater count than the row
+pub row_greatest : (events last : ℕ) (columns : List (List Rise)) (row : List ℕ) → RowMatchesColumns events last columns row → (source place : ℕ) → count_at (column_in columns source) place ≤ slice_index row source
+row_greatest events last columns row k source place = omega (arith, count_at-later (column_in columns source) place (max place last) (omega arith), k.told source (max place last) (omega arith))
+
+-- the count from one more rise on
+pub told_risen : (rises : List Rise) (place count known q : ℕ) → place ≤ q → count_at rises q ≡ known → known < count → count_at (rises ++ record { place = place; count = count } ∷ []) q ≡ count
+told_risen rises place count known q le is less = grind (arith, le-leb, count_at-append)
+
+-- reading an element of a list of numbers returns the number there
+pub read : (xs : List ℕ) (i x : ℕ) → i < length xs → x ≡ get_or xs i x → get_or xs i 0 ≡ x
+read xs i x lt is = sym (get_or_default xs i x 0 lt) ∙ sym is

@@ -9,10 +9,6 @@ use Rattle.causal_clock.specs.Inside.Lanes.{rises_in, SameColumns}
 use Rattle.std.proofs.lemmas.List.{map-append, map-set, set-get_or, get_or-map, length-map, length-append, get_or_append_left, get_or_past}
 use Rattle.std.proofs.Math.Seq.{get_or-append_seam}
 
--- the list of a field is as long as the list of elements
-pub as_many : {V B : Type 0} (f : V → B) (xs : List V) → length (map f xs) ≡ length xs
-as_many f xs = simp length-map
-
 module _ {V B : Type 0} (f : V → B) (xs : List V) (i : ℕ) (x y : V) where
   -- the field of the replaced element, and of the others
   pub told_here : (d : B) → i < length (map f xs) → get_or (map f (set xs i y)) i d ≡ f y
@@ -39,7 +35,7 @@ told_default ys b d is k = grind (arith, get_or_append_left, get_or-append_seam 
 module _ (xs : List LaneColumns) (l : ℕ) (x y : LaneColumns) (lt : l < length xs) where
   -- a replaced lane has its new columns
   pub column_here : (source : ℕ) → column_of (map rises_in (set xs l y)) l source ≡ column_in (rises_in y) source
-  column_here source = ap (λ columns. column_in columns source) (told_here rises_in xs l x y [] (omega (arith, lt, as_many rises_in xs)))
+  column_here source = ap (λ columns. column_in columns source) (told_here rises_in xs l x y [] (omega (arith, lt, length-map xs rises_in)))
 
   -- replacing a lane leaves the columns of the others unchanged
   pub column_elsewhere : (lane source : ℕ) → lane ≢ l → column_of (map rises_in (set xs l y)) lane source ≡ column_of (map rises_in xs) lane source

@@ -1,17 +1,13 @@
--- The invariant on counts after one more event, and after one more lane.
+-- The invariant on counts after one more event.
 use Rattle.std.proofs.lemmas.Grind.{common_steps}
 use Rattle.std.specs.Prelude.{◌≡◌, ◌≢◌, ℕ, ◌+◌, ◌<◌, ◌≤◌, max, Option, Some, None, List, [], ◌∷◌, ◌++◌, length}
-use Rattle.std.proofs.Common.{refl, arith, sym, ◌∙◌, subst, inl, inr}
+use Rattle.std.proofs.Common.{refl, arith, sym, subst, inl, inr}
 use Rattle.std.proofs.lemmas.Bool.Decides.{eqb_tells}
 use Rattle.causal_clock.specs.declared.Event.{Event}
-use Rattle.causal_clock.specs.Timeline.{lane_of, lane_length}
-use Rattle.causal_clock.specs.Precedence.{Precedes, itself, onward, FirstReach}
+use Rattle.causal_clock.specs.Timeline.{lane_length}
+use Rattle.causal_clock.specs.Precedence.{FirstReach}
 use Rattle.causal_clock.specs.Inside.EventCounts.{LastOf, count_or_none, CountsAreRight}
-use Rattle.causal_clock.proofs.Chains.{FirstReachSome, reaches_old, lane_of-old, lane_of-at_new, length-more, lane_length-more, lane_place-old, lane_place-new, old_or_new, one_at_same, one_at_other, first_old, first_new_other, first_new_own, by_lane}
-
--- equal options have equal values
-pub same_some : {a b : ℕ} → Some a ≡ Some b → a ≡ b
-same_some e = cc
+use Rattle.causal_clock.proofs.Chains.{FirstReachSome, reaches_old, reaches_itself, reaches_into, lane_of-old, lane_of-new, length-more, lane_length-more, lane_place-old, lane_place-new, old_or_new, first_old, first_new_other, first_new_own}
 
 -- the counts of an event, or none where there is no event
 some_reach : (es : List Event) (counts : ℕ → ℕ → ℕ) (lanes : ℕ) (k : CountsAreRight es counts lanes) (event : Option ℕ) (lane : ℕ) → ((j : ℕ) → event ≡ Some j → j < length es) → FirstReachSome es event lane (count_or_none counts event lane)
@@ -36,47 +32,25 @@ module _ (es : List Event) (counts : ℕ → ℕ → ℕ) (lanes : ℕ) (k : Cou
   all_of_lane : lane_length es e.lane ≤ count_or_none counts (k.last e.lane).0 e.lane
   all_of_lane = full es counts lanes k _ e.lane last
 
-  in_lanes : (i : ℕ) → i < length (es ++ e ∷ []) → lane_of (es ++ e ∷ []) i < lanes
-  in_lanes i lt = grind (arith, old_or_new, lane_of-old, lane_of-at_new)
-
-  own_reach : FirstReach (es ++ e ∷ []) (length es) e.lane (after (length es) e.lane)
-  own_reach =
-      let is : after (length es) e.lane ≡ max (count_or_none counts (k.last e.lane).0 e.lane) (count_or_none counts e.send e.lane) + 1 = omega (arith, own, all_of_lane, (along e.lane).no_more, (across e.lane).no_more) in
-      rw is (first_new_own es e _ last _ _ e.lane (along e.lane) (across e.lane) refl all_of_lane)
-
   new_reach : (lane : ℕ) → FirstReach (es ++ e ∷ []) (length es) lane (after (length es) lane)
   new_reach lane =
       elim (eqb_tells lane e.lane) [
-        | inl s ↦ subst (λ (x : ℕ). FirstReach (es ++ e ∷ []) (length es) x (after (length es) x)) (sym s.1) own_reach
+        | inl s ↦ rw (s.1, own) (first_new_own es e _ last _ _ e.lane (along e.lane) (across e.lane) refl all_of_lane)
         | inr s ↦ rw (each lane s.1) (first_new_other es e _ last _ _ lane (along lane) (across lane) s.1)
       ]
 
   last_in_own : LastOf (es ++ e ∷ []) (Some (length es)) e.lane
   last_in_own = record {
-    reached = λ i lt of_lane. elim (old_or_new es e i lt) [
-      | inl old ↦
-          let up = last.reached i old (sym (lane_of-old es e i old) ∙ of_lane) in
-          let at = last.inside up.0 up.1 in
-          (length es, refl, onward (reaches_old e up.2) (by_lane es e up.0 at.0 at.1))
-      | inr new ↦ (length es, refl, subst (λ (x : ℕ). Precedes (es ++ e ∷ []) i x) new (itself lt))
-    ];
-    inside = λ p is. grind (arith, common_steps, same_some, length-more, lane_of-at_new, lane_place-new, lane_length-more, one_at_same);
+    reached = λ i lt of_lane. (length es, refl, grind (arith, old_or_new es e i lt, lane_of-old, last.reached, last.inside, reaches_into, reaches_itself));
+    inside = λ p is. grind (arith, common_steps, length-more, lane_of-new, lane_place-new, lane_length-more);
     empty = λ is. cc;
   }
 
   last_in_other : (lane : ℕ) (event : Option ℕ) → e.lane ≢ lane → LastOf es event lane → LastOf (es ++ e ∷ []) event lane
   last_in_other lane event other l = record {
-    reached = λ i lt of_lane. grind (arith, old_or_new es e i lt, lane_of-old, reaches_old, lane_of-at_new);
-    inside = λ p is.
-        grind (
-          arith,
-          length-more es e,
-          lane_of-old es e p (l.inside p is).0,
-          lane_place-old es e p (l.inside p is).0,
-          lane_length-more es e lane,
-          one_at_other e.lane lane other,
-        );
-    empty = λ is. omega (arith, l.empty is, lane_length-more es e lane, one_at_other e.lane lane other);
+    reached = λ i lt of_lane. grind (arith, old_or_new es e i lt, lane_of-old, reaches_old, lane_of-new);
+    inside = λ p is. grind (arith, length-more es e, lane_of-old es e p, lane_place-old es e p, l.inside p is, lane_length-more es e lane);
+    empty = λ is. grind (arith, l.empty is, lane_length-more es e lane);
   }
 
   -- the counts hold after a new event, whose counts are the greater of its lane's last event's and its send's
@@ -87,14 +61,10 @@ module _ (es : List Event) (counts : ℕ → ℕ → ℕ) (lanes : ℕ) (k : Cou
       | inl old ↦ rw (same j old lane) (first_old es e j lane _ old (k.reach j old lane))
       | inr new ↦ rw new (new_reach lane)
     ];
-    own = λ j lt. grind (arith, old_or_new es e j lt, lane_of-old, lane_place-old, lane_of-at_new, lane_place-new);
+    own = λ j lt. grind (arith, old_or_new es e j lt, lane_of-old, lane_place-old, lane_of-new, lane_place-new);
     last = λ lane. elim (eqb_tells lane e.lane) [
       | inl s ↦ (Some (length es), subst (LastOf (es ++ e ∷ []) (Some (length es))) (sym s.1) last_in_own)
       | inr s ↦ ((k.last lane).0, last_in_other lane _ (λ is. s.1 (sym is)) (k.last lane).1)
     ];
-    lanes = in_lanes;
+    lanes = λ i lt. grind (arith, old_or_new, lane_of-old, lane_of-new);
   }
-
--- one more lane
-pub keeps_lane : (es : List Event) (counts : ℕ → ℕ → ℕ) (lanes : ℕ) → CountsAreRight es counts lanes → CountsAreRight es counts (lanes + 1)
-keeps_lane es counts lanes k = record { few = k.few; reach = k.reach; own = k.own; last = k.last; lanes = λ i lt. omega (arith, k.lanes i lt) }

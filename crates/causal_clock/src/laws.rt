@@ -4,7 +4,7 @@ ghost use Rattle.causal_clock.specs.declared.Event.{Event};
 ghost use Rattle.causal_clock.specs.Precedence.{Precedes, IsReachedThrough, FirstReach, IsReachTest, count_in_lane};
 
 /// "Happened before or equals" is a partial order in which no event precedes an earlier one.
-#[tactic(auto, using(crate::proofs::Growth::from_itself, crate::proofs::Growth::through, crate::proofs::Growth::in_order))]
+#[tactic(auto, using(crate::specs::Precedence::itself, crate::proofs::Chains::reaches_forward, crate::proofs::Chains::reaches_through))]
 pub fn order_law()
     ensures itself { (events : List Event) (i : ℕ) → i < length events → Precedes events i i }
     ensures through { (events : List Event) (i j k : ℕ) → Precedes events i j → Precedes events j k →
@@ -14,7 +14,7 @@ pub fn order_law()
 
 /// One more event changes nothing among the older ones. It is reached from itself, and from whatever reaches an event
 /// of its lane or its send.
-#[tactic(auto, using(crate::proofs::Growth::older, crate::proofs::Growth::newest))]
+#[tactic(auto, using(crate::proofs::Chains::older, crate::proofs::Chains::newest))]
 pub fn growth_law()
     ensures older { (events : List Event) (e : Event) (i j : ℕ) → j < length events →
         Precedes (events ++ e ∷ []) i j ↔ Precedes events i j }

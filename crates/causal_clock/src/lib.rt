@@ -160,7 +160,7 @@ impl Clocks {
     }
 
     /// Returns the lane of an event, which must exist.
-    #[tactic(auto, using(crate::proofs::Entries::tells_event))]
+    #[tactic(auto, using(crate::proofs::Fields::tells_event))]
     pub fn lane(&self, event: u32) -> u32
         requires { event < length self.now.events }
         ensures value { result ≡ lane_of self.now.events event }
@@ -171,7 +171,7 @@ impl Clocks {
     }
 
     /// Returns the place of an event, which must exist: how many events of its lane precede it.
-    #[tactic(auto, using(crate::proofs::Entries::tells_event))]
+    #[tactic(auto, using(crate::proofs::Fields::tells_event))]
     pub fn place(&self, event: u32) -> u32
         requires { event < length self.now.events }
         ensures { result ≡ lane_place self.now.events event }
@@ -249,7 +249,7 @@ impl Clocks {
     }
 
     /// Returns whether event i is event j or happened before it. Both must exist.
-    #[tactic(auto, using(crate::proofs::Entries::tells_event))]
+    #[tactic(auto, using(crate::proofs::Fields::tells_event))]
     pub fn precedes(&self, i: u32, j: u32) -> bool
         requires earlier { i < length self.now.events }
         requires later { j < length self.now.events }
@@ -261,7 +261,7 @@ impl Clocks {
 
     /// Returns how many events of the lane precede or equal the event; they are the lane's first ones. The event and
     /// the lane must exist.
-    #[tactic(auto, using(crate::proofs::Entries::tells_event))]
+    #[tactic(auto, using(crate::proofs::Fields::tells_event))]
     pub fn reach(&self, event: u32, lane: u32) -> u32
         requires event { event < length self.now.events }
         requires lane { lane < self.now.lanes }

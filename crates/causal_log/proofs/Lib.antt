@@ -3,8 +3,5 @@ mod EntryLemmas
 mod PlaceLemmas
 mod KnownLemmas
 mod TableLemmas
-mod LeastLemmas
-mod SlotKeyLemmas
 mod MergeLemmas
-mod ChangeLemmas
 mod Rules

@@ -1,14 +1,15 @@
--- Ascending items are recognised as those that messages carry, and stay so as determinants are learned.
+-- Ascending items are recognised as those that messages carry, stay so as determinants are learned, and are so again
+-- once determinants that have changed are looked up.
 use Rattle.std.proofs.Common.{inl, inr, ℕ, zero, suc, ◌+◌, ◌-◌, ◌<◌, length, take, drop, get_or, slice_get, IfSome, ◌≡◌, ◌∙◌, ◌≤◌, ◌||◌, true, false, nat_cmp, List, [], ◌∷◌, ◌++◌, map, filter, Option, Some, None, is_some, unwrap_or, true≢false, refl, sym, ap, arith}
 use Rattle.std.proofs.lemmas.Simd.{map-map}
-use Rattle.std.proofs.lemmas.Bool.{and_from, and_parts, or_cases, or_right}
+use Rattle.std.proofs.lemmas.Bool.{and_from, and_parts, or_cases, or_right, or_parts}
 use Rattle.std.proofs.lemmas.Bool.Decides.{nat_tests}
 use Rattle.std.proofs.lemmas.List.{append-nil, append_assoc, map-id, drop-drop, drop_more, get_or-drop, length-drop, length-take-le, map-append, take-append-drop, take_all, drop_all}
-use Rattle.std.proofs.lemmas.Option.{slice_get-get_or}
+use Rattle.std.proofs.lemmas.Option.{slice_get-get_or, slice_get_within}
 use Rattle.std.proofs.Math.Seq.{drop-append_seam, take-append_seam, take-suc}
 use Rattle.std.proofs.lemmas.List.Folds.{list_any-append}
-use Rattle.std.specs.List.{list_any, list_all}
-use Rattle.std.specs.Option.{option_or, option_map_or}
+use Rattle.std.specs.List.{list_any, list_all, dedup, dedup_from}
+use Rattle.std.specs.Option.{option_or}
 use Rattle.std.specs.Map.{lookup, keys_of}
 use Rattle.std.specs.Cmp.{nat_cmp_total}
 use Rattle.std.specs.FinMap as fin
@@ -21,15 +22,17 @@ use Rattle.causal_holders.proofs.Lemmas.Sets.{len-is_subset}
 use Rattle.causal_log.specs.declared.known.Known.{Known}
 use Rattle.causal_log.specs.declared.batch.Item.{Item}
 use Rattle.causal_log.specs.Knowledge.{unknown, union_with, is_carried, knowledge_from_item}
-use Rattle.causal_log.specs.Logs.{LogMap, known_of, after_learn, after_absorb, item_of, batch_items, dets_of, names_det}
-use Rattle.causal_log.specs.Inside.BatchCache.{known_of_item, item_entries, carried_knowledge, with_carried, LearnsItem}
+use Rattle.causal_log.specs.Logs.{LogMap, known_of, after_learn, after_absorb, item_of, batch_items, dets_of, names_det, after_learn_all, after_mark}
+use Rattle.causal_log.specs.Inside.BatchCache.{known_of_item, item_entries, carried_knowledge, with_carried, LearnsItem, CarriesBut, CacheIsRight, CacheIsRightBut, with_knowledge}
 use Rattle.causal_log.specs.Inside.Merges.{AreDisjoint, IsMergeState, are_known_to_hold}
 use Rattle.causal_log.proofs.EntryLemmas.{below, get_log, same_log, own_entries, not_itself, not_after}
 use Rattle.causal_log.proofs.TableLemmas.{lookup_missing}
 use Rattle.causal_log.proofs.Lemmas.Ascents.{ascending_tail, ascending_skip, first_before, filter_ascends}
 use Rattle.causal_log.proofs.Lemmas.ChosenLemmas.{chosen_ascend}
-use Rattle.causal_log.proofs.Lemmas.KnowledgeGrows.{get_learned}
-use Rattle.causal_log.proofs.Lemmas.Searches.{any_map, before_apart, or_nothing, find_kept, shown, same_turned}
+use Rattle.causal_log.proofs.Lemmas.KnowledgeGrows.{get_learned, told_keys}
+use Rattle.causal_log.proofs.Lemmas.Searches.{any_map, before_apart, find_kept, shown, same_turned}
+use Rattle.causal_log.specs.declared.cached_batch.CachedBatch.{CachedBatch}
+use Rattle.causal_log.proofs.Lemmas.LogLists.{get_marked}
 
 more_holders : (one : set.FinSet nat_cmp) (other : set.FinSet nat_cmp) → ((q : ℕ) → set.contains one q ≡ true → set.contains other q ≡ true) → set.len one ≤ set.len other
 more_holders one other h = len-is_subset one other (set.contains-is_subset nat_cmp_total one other h)
@@ -40,12 +43,6 @@ both_carried f known news h =
     let one = more_holders known.holders (union_with known news).holders (λ q there. grind (arith, set.contains-union, nat_cmp_total)) in
     let other = more_holders news.holders (union_with known news).holders (λ q there. grind (arith, set.contains-union, nat_cmp_total)) in
     grind (arith, nat_tests)
-
-joined_out : (f : ℕ) (known news : Known) → is_carried f known ≡ false → is_carried f (union_with known news) ≡ false
-joined_out f known news is = grind (arith, both_carried)
-
-heard_out : (f : ℕ) (known news : Known) → is_carried f news ≡ false → is_carried f (union_with known news) ≡ false
-heard_out f known news is = grind (arith, both_carried)
 
 pub keys_entries : (items : List Item) → keys_of (item_entries items) ≡ dets_of items
 keys_entries items = map-map (λ e. e.0) (λ item. (item.det, known_of_item item)) items
@@ -211,11 +208,11 @@ module _ (f : ℕ) (log : LogMap) (det : Det) (news : Known) (out rest : List It
 
   -- it is not added if what is learned of it alone would not be carried
   pub still_out : is_carried f news ≡ false → out ++ rest ≡ batch_items f (after_learn log det news)
-  still_out never = stays (heard_out f (known_of log det) news never)
+  still_out never = stays (grind (arith, both_carried f (known_of log det) news))
 
   -- it is not added if it is logged, whatever is learned of it
   pub logged_out : is_some (fin.get log det) ≡ true → out ++ rest ≡ batch_items f (after_learn log det news)
-  logged_out there = stays (joined_out f (known_of log det) news (grind (arith, none_there, in_rest f log det news out rest is before)))
+  logged_out there = stays (grind (arith, both_carried f (known_of log det) news, none_there, in_rest f log det news out rest is before))
 
   -- it is added if it is not logged
   pub comes_in : is_some (fin.get log det) ≡ false → with_carried f det (union_with unknown news) out ++ rest ≡ batch_items f (after_learn log det news)
@@ -228,19 +225,13 @@ apart_carried f from me kept (x ∷ xs) log never apart is =
     let none : lookup (same_det x.det) (item_entries kept) ≡ None = none_found x.det kept (apart x.det (grind (arith, same_itself x.det))) in
     apart_carried f from me kept xs (after_learn log x.det (knowledge_from_item from me x).1) never
     (λ d there. apart d (or_right (same_det d x.det) (list_any (same_det d) (dets_of xs)) there))
-    (heard_now f log x.det (knowledge_from_item from me x).1 [] kept is refl kept (grind (arith, chosen_ascend f log)) (grind (arith, heard_out f (known_of log x.det) (knowledge_from_item from me x).1 (never x))) (λ q other. refl))
+    (heard_now f log x.det (knowledge_from_item from me x).1 [] kept is refl kept (grind (arith, chosen_ascend f log)) (grind (arith, both_carried f (known_of log x.det) (knowledge_from_item from me x).1, never x)) (λ q other. refl))
 
 -- the items from an index on begin with the item at that index
 pub drop_got : (xs : List Item) (i : ℕ) (x : Item) → slice_get xs i ≡ Some x → drop i xs ≡ x ∷ drop (i + 1) xs
 drop_got [] i x h = absurd (true≢false (sym (ap is_some h)))
 drop_got (y ∷ xs) zero x h = ap (λ o. unwrap_or o y ∷ xs) h
 drop_got (y ∷ xs) (suc i) x h = grind (arith, drop_got xs i x h)
-
--- an item's index is within the list
-pub got_within : (xs : List Item) (i : ℕ) (x : Item) → slice_get xs i ≡ Some x → i < length xs
-got_within [] i x h = absurd (true≢false (sym (ap is_some h)))
-got_within (y ∷ xs) zero x h = omega arith
-got_within (y ∷ xs) (suc i) x h = let k = got_within xs i x h in omega (arith, k)
 
 -- if no item before the next one, nor the next one, is of a determinant, the next one comes after it
 pub next_after : (kept : List Item) (place : ℕ) (det : Det) → is_ascending (dets_of (drop place kept)) ≡ true → IfSome (slice_get kept place) (λ item. is_before item.det det ≡ false)
@@ -254,16 +245,9 @@ pub before_later : (f : ℕ) (det : Det) (known : Known) (out : List Item) → i
 before_later f det known out before d low = grind (arith, dets_append, append_assoc, glue, and_from, raise)
 
 module _ (f : ℕ) (items : List Item) (from me : Pid) (source : LogMap) where
-  -- before the first item, what is left are the items that messages carry of the log
-  pub merged_none : (kept : List Item) → kept ≡ batch_items f source → IsMergeState f items items from me source [] kept
-  merged_none kept is = record { log = source; carries = is; all = refl; same = λ q there. refl; before = λ x xs e. refl }
-
   -- after the last item, the copied items and the rest are what messages carry
   pub merged_all : (out kept : List Item) → IsMergeState f items [] from me source out kept → out ++ kept ≡ batch_items f (after_absorb items from me source)
   merged_all out kept h = h.carries ∙ ap (batch_items f) h.all
-
-  first_named : (x : Item) (rest : List Item) → list_any (λ other. same_det x.det other.det) (x ∷ rest) ≡ true
-  first_named x rest = ap (λ b. b || list_any (λ other. same_det x.det other.det) rest) (same_itself x.det)
 
   -- one more item is merged, once the items before it are copied
   pub merged_next : (x : Item) (rest out kept passed next later after : List Item) → is_ascending (dets_of (x ∷ rest)) ≡ true → passed ++ next ≡ out ++ kept
@@ -272,7 +256,7 @@ module _ (f : ℕ) (items : List Item) (from me : Pid) (source : LogMap) where
       → IsMergeState f items (x ∷ rest) from me source out kept → IsMergeState f items rest from me source later after
   merged_next x rest out kept passed next later after ascend moved hears before h = record {
     log = after_learn h.log x.det (knowledge_from_item from me x).1;
-    carries = hears h.log (ap is_some (h.same x.det (first_named x rest))) (moved ∙ h.carries);
+    carries = hears h.log (grind (arith, h.same x.det, same_itself x.det)) (moved ∙ h.carries);
     all = h.all;
     same = λ q there.
         grind (arith, get_learned h.log x.det (knowledge_from_item from me x).1 q, same_turned q x.det, before_apart x.det q, first_before x.det (dets_of rest) q ascend, any_map (λ other. other.det) (same_det q) (λ other. same_det q other.det) (λ other. refl) rest, h.same q);
@@ -302,11 +286,7 @@ ends_before (x ∷ xs) e d h there =
 
 -- no element of an ascending list comes after its last
 none_after_last : (xs : List Det) (e d : Det) → is_ascending (xs ++ e ∷ []) ≡ true → list_any (same_det d) (xs ++ e ∷ []) ≡ true → is_before e d ≡ false
-none_after_last xs e d h there =
-    elim (or_cases (list_any (same_det d) xs) (same_det d e || false) (sym (list_any-append (same_det d) xs (e ∷ [])) ∙ there)) [
-      | inl at ↦ not_after d e (ends_before xs e d h at)
-      | inr is ↦ ap (is_before e) (same_is d e (or_nothing (same_det d e) ∙ is)) ∙ not_itself e
-    ]
+none_after_last xs e d h there = grind (arith, list_any-append (same_det d) xs (e ∷ []), ends_before xs e d h, not_after d e, not_itself e, same_is d e)
 
 -- the items from an index on ascend
 pub drop_ascends : (xs : List Item) (n : ℕ) → is_ascending (dets_of xs) ≡ true → is_ascending (dets_of (drop n xs)) ≡ true
@@ -314,7 +294,7 @@ drop_ascends xs n h = grind (arith, back, dets_append (take n xs) (drop n xs), t
 
 -- the last item of a list ends it
 ends_with : (xs : List Item) (x : Item) → slice_get xs (length xs - 1) ≡ Some x → dets_of (take (length xs - 1) xs) ++ x.det ∷ [] ≡ dets_of xs
-ends_with xs x there = grind (arith, got_within xs (length xs - 1) x there, drop_got xs (length xs - 1) x there, drop_all, take-append-drop (length xs - 1) xs, dets_append (take (length xs - 1) xs) (x ∷ []))
+ends_with xs x there = grind (arith, slice_get_within xs (length xs - 1) x there, drop_got xs (length xs - 1) x there, drop_all, take-append-drop (length xs - 1) xs, dets_append (take (length xs - 1) xs) (x ∷ []))
 
 -- items between two neighbours of a list are none of that list
 pub apart_between : (items kept : List Item) (first last : Item) (place : ℕ) → is_ascending (dets_of items) ≡ true → slice_get items 0 ≡ Some first → slice_get items (length items - 1) ≡ Some last
@@ -341,23 +321,20 @@ in_its_place f det known xs n within = grind (arith, length-take-le n xs within,
 
 -- the own determinant is added at the first item that does not come before it
 module _ (f : ℕ) (log : LogMap) (own : Det) (news : Known) (xs : List Item) (place : ℕ) (is : xs ≡ batch_items f log) (before : is_ascending (dets_of (take place xs) ++ own ∷ []) ≡ true) (next : IfSome (slice_get xs place) (λ item. is_before item.det own ≡ false)) where
-  split : take place xs ++ drop place xs ≡ batch_items f log
-  split = take-append-drop place xs ∙ is
-
   after_own : IfSome (slice_get xs place) (λ item. same_det item.det own ≡ false) → is_ascending (own ∷ dets_of (drop place xs)) ≡ true
-  after_own apart = next_after xs place own (rest_ascends f log (take place xs) (drop place xs) split) next apart
+  after_own apart = next_after xs place own (rest_ascends f log (take place xs) (drop place xs) (take-append-drop place xs ∙ is)) next apart
 
   -- an item of it is replaced by what is known afterwards, if that is carried
   pub own_met : (item : Item) → slice_get xs place ≡ Some item → item.det ≡ own → with_carried f own (union_with (known_of_item item) news) (take place xs) ++ drop (place + 1) xs ≡ batch_items f (after_learn log own news)
-  own_met item there same = grind (arith, met, drop_got, split)
+  own_met item there same = grind (arith, met, drop_got, take-append-drop)
 
   -- it is not added if it is logged
   pub own_out : IfSome (slice_get xs place) (λ item. same_det item.det own ≡ false) → is_some (fin.get log own) ≡ true → xs ≡ batch_items f (after_learn log own news)
-  own_out apart there = grind (arith, take-append-drop, logged_out, split, after_own)
+  own_out apart there = sym (take-append-drop place xs) ∙ logged_out f log own news (take place xs) (drop place xs) (take-append-drop place xs ∙ is) before (after_own apart) there
 
   -- otherwise it is added
   pub own_in : IfSome (slice_get xs place) (λ item. same_det item.det own ≡ false) → is_some (fin.get log own) ≡ false → with_carried f own (union_with unknown news) (take place xs) ++ drop place xs ≡ batch_items f (after_learn log own news)
-  own_in apart new = comes_in f log own news (take place xs) (drop place xs) split before (after_own apart) new
+  own_in apart new = comes_in f log own news (take place xs) (drop place xs) (take-append-drop place xs ∙ is) before (after_own apart) new
 
 -- a union with holders that are known adds nothing
 holders_in : (s t : set.FinSet nat_cmp) → set.is_subset s t ≡ true → set.union t s ≡ t
@@ -365,13 +342,68 @@ holders_in s t h = set.same_set nat_cmp_total set.nat_cmp-IsAntisymmetric _ _ (�
 
 -- learning of holders that are known changes nothing
 pub learned_known : (log : LogMap) (det : Det) (news : Known) → news.stable ≡ false → are_known_to_hold log det news.holders ≡ true → after_learn log det news ≡ log
-learned_known log det news plain = by (fin.get log det) refl
-  where
-    by : (o : Option Known) → fin.get log det ≡ o → option_map_or (λ known. set.is_subset news.holders known.holders) o false ≡ true → after_learn log det news ≡ log
-    by None is h = absurd (true≢false (sym h))
-    by (Some known) is h = fin.same_map dets_total exact_dets (after_learn log det news) log (λ q. grind (arith, get_learned log det news q, holders_in news.holders known.holders h, same_is q det))
+learned_known log det news plain known = fin.same_map dets_total exact_dets (after_learn log det news) log (λ q. grind (arith, get_learned log det news q, holders_in, same_is q det))
 
 -- absorbing items whose holders are all known changes nothing
 pub absorbed_known : (from me : Pid) (items : List Item) (log : LogMap) → list_all (λ item. are_known_to_hold log item.det (knowledge_from_item from me item).1.holders) items ≡ true → after_absorb items from me log ≡ log
 absorbed_known from me [] log h = refl
 absorbed_known from me (x ∷ xs) log h = grind (arith, learned_known log x.det (knowledge_from_item from me x).1 refl, absorbed_known from me xs log)
+
+-- a log that differs from another only at these determinants
+abbrev pub DiffersAt : List Det → LogMap → LogMap → Type 0
+DiffersAt dets log other = (q : Det) → list_any (same_det q) dets ≡ false → fin.get other q ≡ fin.get log q
+
+-- a cache that is right for a log is right for another one, except where they differ
+pub right_elsewhere : (kept : Option CachedBatch) (dets : List Det) (log other now : LogMap) → now ≡ other → DiffersAt dets log other → CacheIsRight kept log → CacheIsRightBut dets kept now
+right_elsewhere None dets log other now is differ right = right
+right_elsewhere (Some k) dets log other now is differ right = λ q h. grind (arith, list_any-append (same_det q) dets k.changed.items, or_parts, right q, differ q)
+
+-- learning changes what is learned
+pub learned_elsewhere : (log : LogMap) (det : Det) (news : Known) → DiffersAt (det ∷ []) log (after_learn log det news)
+learned_elsewhere log det news = λ q h. grind (arith, get_learned log det news q, or_parts)
+
+pub all_learned_elsewhere : (es : List (Det × Known)) (log : LogMap) → DiffersAt (keys_of es) log (after_learn_all es log)
+all_learned_elsewhere [] log = λ q h. refl
+all_learned_elsewhere (e ∷ es) log = λ q h. grind (arith, all_learned_elsewhere es (after_learn log e.0 e.1) q, get_learned log e.0 e.1 q)
+
+pub absorbed_elsewhere : (items : List Item) (from me : Pid) (log : LogMap) → DiffersAt (dets_of items) log (after_absorb items from me log)
+absorbed_elsewhere items from me log = λ q h. all_learned_elsewhere _ log q (ap (list_any (same_det q)) (told_keys from me items) ∙ h)
+
+pub marked_elsewhere : (log : LogMap) (det : Det) → DiffersAt (det ∷ []) log (after_mark log det)
+marked_elsewhere log det = λ q h. grind (arith, get_marked log det q, or_parts)
+
+-- the items once a determinant that has changed is looked up: `out` comes before it, `later` after it
+module _ (f : ℕ) (log : LogMap) (det : Det) (out rest later : List Item) (before : is_ascending (dets_of out ++ det ∷ []) ≡ true) (after : is_ascending (det ∷ dets_of later) ≡ true) where
+  pub looked_up_ascends : (o : Option Known) → is_ascending (dets_of (with_knowledge f det o out ++ later)) ≡ true
+  looked_up_ascends o = grind (arith, append_assoc, dets_append, glue, without (dets_of out) det (dets_of later))
+
+  none_out : lookup (same_det det) (item_entries out) ≡ None
+  none_out = none_found det out (none_front (dets_of out) det before)
+
+  none_later : lookup (same_det det) (item_entries later) ≡ None
+  none_later = none_found det later (none_back det (dets_of later) after)
+
+  found_there : (o : Option Known) → lookup (same_det det) (item_entries (with_knowledge f det o out ++ later)) ≡ carried_knowledge f o
+  found_there o = grind (arith, found_append, append_assoc, none_out, none_later, same_itself, carried_unmarked)
+
+  found_elsewhere : (o : Option Known) (q : Det) → same_det q det ≡ false → lookup (same_det q) (item_entries later) ≡ lookup (same_det q) (item_entries rest)
+      → lookup (same_det q) (item_entries (with_knowledge f det o out ++ later)) ≡ lookup (same_det q) (item_entries (out ++ rest))
+  found_elsewhere o q apart same = grind (arith, found_append, append_assoc)
+
+  pub looked_up : ((q : Det) → same_det q det ≡ false → lookup (same_det q) (item_entries later) ≡ lookup (same_det q) (item_entries rest))
+      → (others : List Det) → CarriesBut (det ∷ others) f log (out ++ rest) → CarriesBut others f log (with_knowledge f det (fin.get log det) out ++ later)
+  looked_up same others right q h = grind (arith, same_is q det, found_there (fin.get log det), found_elsewhere (fin.get log det) q, same q, right q)
+
+  -- what is copied comes before each later determinant
+  pub before_next : (o : Option Known) (d : Det) → is_before det d ≡ true → is_ascending (dets_of (with_knowledge f det o out) ++ d ∷ []) ≡ true
+  before_next None d low = raise (dets_of out) det d before low
+  before_next (Some known) d low = before_later f det known out before d low
+
+-- what is left of a list without its repeated elements has the same elements
+any_left : (q k : Det) (ds : List Det) → list_any (same_det q) (dedup_from same_det k ds) ≡ list_any (same_det q) (k ∷ ds)
+any_left q k [] = refl
+any_left q k (d ∷ ds) = grind (arith, any_left q k ds, any_left q d ds, same_is d k)
+
+pub any_once : (q : Det) (ds : List Det) → list_any (same_det q) (dedup same_det ds) ≡ list_any (same_det q) ds
+any_once q [] = refl
+any_once q (d ∷ ds) = any_left q d ds

@@ -1,12 +1,11 @@
--- Entries in any order, and the map that they make.
+-- Entries in any order, the map that they make, and the least determinant of a slot.
 use Rattle.std.proofs.Common.{ℕ, zero, suc, ◌≡◌, ◌∙◌, Bool, true, false, cond, List, [], ◌∷◌, filter, find, count_by, Option, Some, None, is_some, option_map, unwrap_or, slice_get, length, true≢false, refl, sym, ap, subst, arith}
 use Rattle.std.proofs.lemmas.Bool.Decides.{nat_tests}
 use Rattle.std.proofs.lemmas.List.Sorted.{IsPermutation-refl, IsPermutation-cons, IsPermutation-swap, IsPermutation-trans, IsPermutation-map, length_permutation, sum_by-IsPermutation}
 use Rattle.std.proofs.lemmas.List.Sums.{length-filter}
-use Rattle.std.proofs.lemmas.Map.Entries.{lookup-filter-values}
 use Rattle.std.proofs.lemmas.Map.Keys.{any_passes_from_place}
 use Rattle.std.proofs.lemmas.Map.Made.{is_some-lookup}
-use Rattle.std.proofs.lemmas.Option.{slice_get-map}
+use Rattle.std.proofs.lemmas.Option.{slice_get-map, slice_get_read}
 use Rattle.std.specs.List.{AllByRecursion, IsDistinct, list_any}
 use Rattle.std.specs.List.Sorted.{IsPermutation}
 use Rattle.std.specs.Map.{lookup, keys_of}
@@ -22,13 +21,30 @@ use Rattle.causal_name.proofs.Lemmas.DetOrder.{dets_total, exact_dets, same_is, 
 use Rattle.causal_log.specs.declared.known.Known.{Known}
 use Rattle.causal_log.specs.Knowledge.{unknown, union_with}
 use Rattle.causal_log.specs.Logs.{LogMap, after_learn_all}
-use Rattle.causal_log.specs.Inside.Ranks.{has_rank}
-use Rattle.causal_log.proofs.EntryLemmas.{det_equiv, find_lookup, get_log, same_log, keys_distinct, nothing, not_itself, not_after}
-use Rattle.causal_log.proofs.LeastLemmas.{index_of_member}
+use Rattle.causal_log.specs.Inside.Ranks.{has_rank, IsLeastOfSlot}
+use Rattle.causal_log.proofs.EntryLemmas.{find_lookup, get_log, same_log, keys_distinct, nothing, not_itself, not_after}
 use Rattle.causal_log.proofs.Lemmas.Ascents.{ascending_tail, ascending_skip, first_before, map_ascends}
 use Rattle.causal_log.proofs.Lemmas.KnowledgeGrows.{get_learned}
 use Rattle.causal_log.proofs.Lemmas.LogLists.{place_shown}
-use Rattle.causal_log.proofs.Lemmas.Slots.{first_fits, none_fits}
+use Rattle.causal_log.proofs.Lemmas.Slots.{first_fits, none_fits, first_least}
+use Rattle.std.proofs.lemmas.Map.Views.{Contains-from_any}
+use Rattle.causal_name.specs.declared.Pid.{Pid}
+use Rattle.causal_log.specs.Slots.{is_of_slot, first_of_slot}
+
+-- a determinant of a list has an index in it
+pub index_of_member : (d : Det) (ds : List Det) → list_any (same_det d) ds ≡ true → (k : ℕ) × (slice_get ds k ≡ Some d)
+index_of_member d ds h = let at = Contains-from_any same_is d ds h in (at.0, slice_get_read _ _ at.0 _ refl at.1 (sym at.2))
+
+-- the least of some determinants is the first of an ascending list of them
+pub least_first : (dest : Pid) (rsn : ℕ) (dets ds : List Det) (o : Option Det) → is_ascending ds ≡ true → ((q : Det) → list_any (same_det q) dets ≡ list_any (same_det q) ds)
+    → IsLeastOfSlot dest rsn dets o → o ≡ first_of_slot dest rsn ds
+least_first dest rsn dets ds o ascend same is = by o is (first_of_slot dest rsn ds) refl
+  where
+    by : (o : Option Det) → IsLeastOfSlot dest rsn dets o → (r : Option Det) → first_of_slot dest rsn ds ≡ r → o ≡ r
+    by None is None first = refl
+    by None is (Some d) first = grind (arith, first_fits (is_of_slot dest rsn) ds d first, is d, same d)
+    by (Some f) is None first = grind (arith, none_fits (is_of_slot dest rsn) ds f first, same f)
+    by (Some f) is (Some d) first = grind (arith, first_fits (is_of_slot dest rsn) ds d first, first_least (is_of_slot dest rsn) ds d f ascend first, same f, same d, is.2 d, not_after d f)
 
 none_later : {X : Type 0} (d : Det) (es : List (Det × X)) → AllByRecursion (λ y. same_det d y ≡ false) (keys_of es) → lookup (same_det d) es ≡ None
 none_later d [] h = refl
@@ -88,11 +104,6 @@ module _ {X : Type 0} where
     -- as many sorted entries pass a test of their values
     pub same_count : (P : X → Bool) → length (filter (λ e. P e.1) es) ≡ length (filter (λ e. P e.1) (in_order es))
     same_count P = grind (arith, length-filter, sum_by-IsPermutation, moved_order)
-
-    -- the sorted entries that pass a test make the same map
-    pub same_kept : (P : X → Bool) → fin.from_entries {R = det_cmp} (filter (λ e. P e.1) es) ≡ fin.from_entries (filter (λ e. P e.1) (in_order es))
-    same_kept P = same_log (filter (λ e. P e.1) es) (filter (λ e. P e.1) (in_order es)) (λ q.
-        grind (arith, lookup-filter-values det_equiv P q es distinct, lookup-filter-values det_equiv P q (in_order es) (keys_distinct (fin.from_entries es)), found_order es q))
 
     -- the sorted entries that pass a test of determinant and value make the same map
     pub same_passing : (P : Det × X → Bool) → fin.from_entries {R = det_cmp} (filter P es) ≡ fin.from_entries (filter P (in_order es))
@@ -165,8 +176,8 @@ module _ (es : List (Det × Known)) (distinct : IsDistinct same_det (keys_of es)
           grind (arith, nat_tests, two.0, there.1, rank_order there.0 d there.1)
 
   -- with what is known of it, the determinant of rank n is the entry at index n
-  pub ranked_entry : (n : ℕ) → with_known (fin.from_entries es) (find (λ d. has_rank es n d) (keys_of es)) ≡ slice_get (in_order es) n
-  ranked_entry n = ap (with_known (fin.from_entries es)) (ranked_key n ∙ slice_get-map (λ e. e.0) (in_order es) n) ∙ by (slice_get (in_order es) n) refl
+  pub ranked_entry : (n : ℕ) (o : Option Det) → o ≡ find (λ d. has_rank es n d) (keys_of es) → with_known (fin.from_entries es) o ≡ slice_get (in_order es) n
+  ranked_entry n o is = ap (with_known (fin.from_entries es)) (is ∙ ranked_key n ∙ slice_get-map (λ e. e.0) (in_order es) n) ∙ by (slice_get (in_order es) n) refl
     where
       by : (o : Option (Det × Known)) → slice_get (in_order es) n ≡ o → with_known (fin.from_entries es) (option_map (λ e. e.0) o) ≡ o
       by None at = refl

@@ -55,10 +55,6 @@ pub told_keys : (from me : Pid) (items : List Item) → keys_of (map (knowledge_
 told_keys from me items = map-map (λ e. e.0) (knowledge_from_item from me) items
 
 module _ (from me : Pid) (q : Det) where
-  -- a message gives knowledge of exactly the determinants of its items
-  pub told_dets : (items : List Item) → list_any (λ e. same_det q e.0) (map (knowledge_from_item from me) items) ≡ list_any (λ item. same_det q item.det) items
-  told_dets items = any_map (knowledge_from_item from me) (λ e. same_det q e.0) (λ item. same_det q item.det) (λ x. refl) items
-
   -- a message marks no determinant as stable
   pub told_stable : (items : List Item) → list_any (λ e. same_det q e.0 && e.1.stable) (map (knowledge_from_item from me) items) ≡ false
   told_stable [] = refl
@@ -67,12 +63,6 @@ module _ (from me : Pid) (q : Det) where
   -- the holders that an item gives: its own, the sender and the receiver
   pub told_one : (p : ℕ) (item : Item) → set.contains (knowledge_from_item from me item).1.holders p ≡ (set.contains item.holders p || (p == from.0 || p == me.0))
   told_one p item = grind (arith, set.contains-insert, nat_cmp_total, nat_ties)
-
-  -- a message makes p a holder of q if an item of q names p, or if q has an item and p is the sender or receiver
-  pub told_holders : (p : ℕ) (items : List Item) →
-      list_any (λ e. same_det q e.0 && set.contains e.1.holders p) (map (knowledge_from_item from me) items)
-      ≡ list_any (λ item. same_det q item.det && (set.contains item.holders p || (p == from.0 || p == me.0))) items
-  told_holders p items = grind (arith, any_map, told_one)
 
 -- learning of one determinant adds one entry if it was not logged
 pub size_one : (log : LogMap) (det : Det) (known : Known) → fin.len (after_learn log det known) ≡ fin.len log + cond (is_some (fin.get log det)) 0 1
@@ -91,15 +81,13 @@ size_all (e ∷ es) log h = grind (arith, size_all es, ascending_tail, size_one,
 module _ (items : List Item) (from me : Pid) (log : LogMap) where
   -- after `absorb` a log has what it had and what the items name
   pub absorbed_logged : (det : Det) → is_some (fin.get (after_absorb items from me log) det) ≡ (is_some (fin.get log det) || list_any (λ item. same_det det item.det) items)
-  absorbed_logged det = logged_all (map (knowledge_from_item from me) items) log det ∙ ap (λ b. is_some (fin.get log det) || b) (told_dets from me det items)
+  absorbed_logged det = grind (arith, logged_all (map (knowledge_from_item from me) items) log det, any_map)
 
   -- after `absorb` the known holders include the item's holders, the sender and the receiver
   pub absorbed_holders : (det : Det) (p : ℕ) →
       set.contains (known_of (after_absorb items from me log) det).holders p
       ≡ (set.contains (known_of log det).holders p || list_any (λ item. same_det det item.det && (set.contains item.holders p || (p == from.0 || p == me.0))) items)
-  absorbed_holders det p =
-      known_all (λ k. set.contains k.holders p) (holds_either p) (map (knowledge_from_item from me) items) log det
-      ∙ ap (λ b. set.contains (known_of log det).holders p || b) (told_holders from me det p items)
+  absorbed_holders det p = grind (arith, known_all (λ k. set.contains k.holders p) (holds_either p) (map (knowledge_from_item from me) items) log det, any_map, told_one from me det p)
 
   -- `absorb` changes no mark
   pub absorbed_stable : (det : Det) → (known_of (after_absorb items from me log) det).stable ≡ (known_of log det).stable

@@ -1,5 +1,5 @@
 -- The items of a log that a message carries.
-use Rattle.std.proofs.Common.{◌≡◌, ◌∙◌, ◌<◌, ◌⊎◌, ℕ, ◌&&◌, Bool, true, false, Option, Some, unwrap_or, arith}
+use Rattle.std.proofs.Common.{◌≡◌, ◌<◌, ◌⊎◌, ℕ, ◌&&◌, Bool, true, false, Option, Some, unwrap_or, arith}
 use Rattle.std.proofs.Math.Bool.{and_comm}
 use Rattle.std.proofs.lemmas.Bool.Decides.{nat_tests}
 use Rattle.std.specs.FinMap as fin
@@ -9,7 +9,7 @@ use Rattle.causal_name.specs.declared.Det.{Det}
 use Rattle.causal_name.specs.Names.{same_det}
 use Rattle.causal_log.specs.declared.known.Known.{Known}
 use Rattle.causal_log.specs.Knowledge.{unknown, is_carried}
-use Rattle.causal_log.specs.Logs.{LogMap, known_of, item_of, is_in_batch, batch_items}
+use Rattle.causal_log.specs.Logs.{LogMap, known_of, is_in_batch, batch_items}
 use Rattle.causal_log.proofs.Lemmas.Searches.{any_kept, any_logged, passes}
 
 -- the second of three conditions can be checked first
@@ -30,10 +30,7 @@ carried_dets f log det = grind (arith, any_kept, and_comm, any_logged (is_carrie
 -- a carried determinant is sent with its known holders
 pub carried_holders : (f : ℕ) (log : LogMap) (det : Det) (p : ℕ) →
     list_any (λ item. same_det det item.det && set.contains item.holders p) (batch_items f log) ≡ (is_in_batch f (fin.get log det) && set.contains (known_of log det).holders p)
-carried_holders f log det p =
-    any_kept item_of (λ e. is_carried f e.1) (λ item. same_det det item.det && set.contains item.holders p) (λ e. same_det det e.0 && (is_carried f e.1 && set.contains e.1.holders p)) (λ e. swap_first (is_carried f e.1) (same_det det e.0) (set.contains e.1.holders p)) (fin.entries log)
-    ∙ any_logged (λ k. is_carried f k && set.contains k.holders p) det log
-    ∙ held f p (fin.get log det)
+carried_holders f log det p = grind (arith, any_kept, swap_first, any_logged (λ k. is_carried f k && set.contains k.holders p) det log, held f p (fin.get log det))
 
 -- a logged determinant that is not carried is known to be stable or has more than f known holders
 pub left_out : (f : ℕ) (log : LogMap) (det : Det) (known : Known) → fin.get log det ≡ Some known →

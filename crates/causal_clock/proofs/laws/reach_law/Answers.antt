@@ -1,5 +1,4 @@
-use Rattle.causal_clock.proofs.Counts.{reach_counted}
-use Rattle.causal_clock.proofs.Places.{reach_unique}
+use Rattle.causal_clock.proofs.Places.{reach_counted, reach_unique}
 use Rattle.causal_clock.proofs.laws.reach_law.Goals as goal
 
 pub returns : goal.returns

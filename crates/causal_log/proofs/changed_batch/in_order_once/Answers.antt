@@ -6,7 +6,7 @@ use Rattle.std.specs.List.{list_any}
 use Rattle.causal_name.specs.Names.{same_det, is_ascending}
 use Rattle.causal_name.proofs.Lemmas.DetOrder.{dets_total, det_ties}
 use Rattle.causal_log.proofs.EntryLemmas.{strict_ascends}
-use Rattle.causal_log.proofs.ChangeLemmas.{any_once}
+use Rattle.causal_log.proofs.MergeLemmas.{any_once}
 use Rattle.causal_log.proofs.changed_batch.in_order_once.Goals as goal
 
 pub returns-clause-ascending : goal.returns-clause-ascending

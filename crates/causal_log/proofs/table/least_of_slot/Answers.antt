@@ -1,4 +1,4 @@
-use Rattle.causal_log.proofs.SlotKeyLemmas.{least_of_all, least_one_more}
+use Rattle.causal_log.proofs.TableLemmas.{least_of_all, least_one_more}
 use Rattle.std.proofs.Common.{arith}
 use Rattle.causal_log.proofs.table.least_of_slot.Goals as goal
 

@@ -1,4 +1,4 @@
-use Rattle.causal_log.proofs.SlotKeyLemmas.{IsLeastBelow}
+use Rattle.causal_log.proofs.TableLemmas.{IsLeastBelow}
 use Rattle.causal_log.proofs.table.least_of_slot.Given as goal
 
 abbrev pub invariant-loop-number : goal.invariant-loop-number

@@ -1,5 +1,5 @@
 use Rattle.std.proofs.Common.{arith}
-use Rattle.causal_log.proofs.SlotKeyLemmas.{absent_everywhere, absent_one_more}
+use Rattle.causal_log.proofs.TableLemmas.{absent_everywhere, absent_one_more}
 use Rattle.causal_log.proofs.table.search.Goals as goal
 
 pub loop-number-preserved : goal.loop-number-preserved

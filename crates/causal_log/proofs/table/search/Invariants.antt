@@ -1,4 +1,4 @@
-use Rattle.causal_log.proofs.SlotKeyLemmas.{IsAbsentBelow}
+use Rattle.causal_log.proofs.TableLemmas.{IsAbsentBelow}
 use Rattle.causal_log.proofs.table.search.Given as goal
 
 abbrev pub invariant-loop-number : goal.invariant-loop-number

@@ -1,5 +1,5 @@
 use Rattle.std.proofs.Common.{arith}
-use Rattle.causal_log.proofs.SlotKeyLemmas.{none_at_bound, used_numbers_few}
+use Rattle.causal_log.proofs.TableLemmas.{none_at_bound, used_numbers_few}
 use Rattle.causal_log.proofs.table.unused_number.Goals as goal
 
 pub returns-then-is_none-clause-few : goal.returns-then-is_none-clause-few

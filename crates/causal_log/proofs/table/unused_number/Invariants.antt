@@ -1,6 +1,6 @@
 use Rattle.std.proofs.Common.{ℕ, ◌<◌, ◌≤◌}
 use Rattle.std.specs.Option.{IsSome}
-use Rattle.causal_log.proofs.SlotKeyLemmas.{entry_of_key}
+use Rattle.causal_log.proofs.TableLemmas.{entry_of_key}
 use Rattle.causal_log.proofs.table.unused_number.Given as goal
 
 -- entries have all numbers so far

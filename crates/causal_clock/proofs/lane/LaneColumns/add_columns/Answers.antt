@@ -1,12 +1,13 @@
 use Rattle.std.proofs.Common.{length-append, arith, refl}
 use Rattle.std.proofs.lemmas.Grind.{common_steps}
+use Rattle.std.proofs.lemmas.List.{length-map}
 use Rattle.causal_clock.specs.Inside.Lanes.{rises_in}
-use Rattle.causal_clock.proofs.Lanes.{as_many, column_pushed}
-use Rattle.causal_clock.proofs.Rows.{row_same}
+use Rattle.causal_clock.proofs.Lanes.{column_pushed}
+use Rattle.causal_clock.proofs.Columns.{row_same}
 use Rattle.causal_clock.proofs.lane.LaneColumns.add_columns.Goals as goal
 
 pub loop-preserved : goal.loop-preserved
-loop-preserved c = grind (arith, common_steps, column_pushed, as_many, length-append)
+loop-preserved c = grind (arith, common_steps, column_pushed, length-map, length-append)
 
 pub invariant_of-self : goal.invariant_of-self
 invariant_of-self c =

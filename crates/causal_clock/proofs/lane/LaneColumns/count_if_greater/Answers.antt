@@ -1,5 +1,5 @@
 use Rattle.std.proofs.Common.{arith}
-use Rattle.causal_clock.proofs.Rows.{row_greatest}
+use Rattle.causal_clock.proofs.Columns.{row_greatest}
 use Rattle.causal_clock.proofs.lane.LaneColumns.count_if_greater.Goals as goal
 
 pub returns-then-last_count-known : goal.returns-then-last_count-known

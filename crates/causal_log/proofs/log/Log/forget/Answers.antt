@@ -1,6 +1,4 @@
-use Rattle.std.proofs.Common.{◌∙◌, ap, sym, filter, not, arith}
-use Rattle.std.specs.Map.{keys_of}
-use Rattle.causal_name.specs.Names.{is_ascending}
+use Rattle.std.proofs.Common.{not, arith}
 use Rattle.causal_log.specs.Logs.{is_forgotten, log_of}
 use Rattle.causal_log.proofs.Lemmas.Ascents.{filter_ascends}
 use Rattle.causal_log.proofs.EntryLemmas.{own_entries}
@@ -8,12 +6,7 @@ use Rattle.causal_log.proofs.PlaceLemmas.{same_passing}
 use Rattle.causal_log.proofs.log.Log.forget.Goals as goal
 
 pub invariant_of-self : goal.invariant_of-self
-invariant_of-self c =
-    let es = c.self.inside.entries.entries in
-    record {
-      ascending = λ h. ap (λ xs. is_ascending (keys_of xs)) (c.forget.ensures.left ∙ ap (filter (λ e. not (is_forgotten c.args.next e))) (sym (own_entries es (c.self.invariant.ascending h)))) ∙ filter_ascends (λ e. not (is_forgotten c.args.next e)) (log_of es);
-      carries = tt;
-    }
+invariant_of-self c = record { ascending = λ h. grind (arith, own_entries c.self.inside.entries.entries, filter_ascends (λ e. not (is_forgotten c.args.next e)) (log_of c.self.inside.entries.entries)); carries = tt }
 
 -- the entries left are those of the map without the forgotten ones
 pub returns-clause-left : goal.returns-clause-left

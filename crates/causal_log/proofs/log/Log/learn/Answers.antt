@@ -1,6 +1,6 @@
 use Rattle.std.proofs.Common.{[], ◌∷◌, true≢false, sym, arith}
 use Rattle.causal_log.specs.Logs.{log_of}
-use Rattle.causal_log.proofs.ChangeLemmas.{right_elsewhere, learned_elsewhere}
+use Rattle.causal_log.proofs.MergeLemmas.{right_elsewhere, learned_elsewhere}
 use Rattle.causal_log.proofs.log.Log.learn.Goals as goal
 
 pub invariant_of-self-2 : goal.invariant_of-self-2

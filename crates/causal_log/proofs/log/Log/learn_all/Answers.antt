@@ -1,7 +1,7 @@
 use Rattle.std.proofs.Common.{true≢false, sym, arith}
 use Rattle.std.specs.Map.{keys_of}
 use Rattle.causal_log.specs.Logs.{log_of}
-use Rattle.causal_log.proofs.ChangeLemmas.{right_elsewhere, all_learned_elsewhere}
+use Rattle.causal_log.proofs.MergeLemmas.{right_elsewhere, all_learned_elsewhere}
 use Rattle.causal_log.proofs.log.Log.learn_all.Goals as goal
 
 pub invariant_of-self-2 : goal.invariant_of-self-2

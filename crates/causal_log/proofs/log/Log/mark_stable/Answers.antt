@@ -3,7 +3,7 @@ use Rattle.causal_name.specs.Names.{is_ascending}
 use Rattle.causal_log.specs.Knowledge.{as_stable}
 use Rattle.causal_log.specs.Logs.{log_of}
 use Rattle.causal_log.proofs.KnownLemmas.{marked_then}
-use Rattle.causal_log.proofs.ChangeLemmas.{right_elsewhere, marked_elsewhere}
+use Rattle.causal_log.proofs.MergeLemmas.{right_elsewhere, marked_elsewhere}
 use Rattle.causal_log.proofs.log.Log.mark_stable.Goals as goal
 
 pub invariant_of-self : goal.invariant_of-self

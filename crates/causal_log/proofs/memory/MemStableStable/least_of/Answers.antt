@@ -3,7 +3,7 @@ use Rattle.std.specs.Map.{keys_of}
 use Rattle.causal_log.specs.Stores.{set_of, dets_in}
 use Rattle.causal_log.proofs.Lemmas.Ascents.{map_ascends}
 use Rattle.causal_log.proofs.Lemmas.StoreSets.{has_list, listed}
-use Rattle.causal_log.proofs.LeastLemmas.{least_first}
+use Rattle.causal_log.proofs.PlaceLemmas.{least_first}
 use Rattle.causal_log.proofs.memory.MemStableStable.least_of.Goals as goal
 
 pub returns : goal.returns

@@ -1,15 +1,10 @@
-use Rattle.std.proofs.Common.{◌∙◌, ◌≤◌, ap, sym, arith}
-use Rattle.std.specs.FinMap as fin
-use Rattle.causal_log.specs.Logs.{log_of}
+use Rattle.std.proofs.Common.{◌≤◌, arith}
 use Rattle.causal_log.proofs.TableLemmas.{first_new, pushed_log, pushed_table}
 use Rattle.causal_log.proofs.table.Table.add_first.Goals as goal
 
 pub returns-clause-new : goal.returns-clause-new
 returns-clause-new c =
-    let es = c.self.inside.entries.entries in
-    let det = c.args.det in
-    ap (λ t. fin.get (log_of t.entries) det) (sym c.self.view_is)
-    ∙ first_new es c.self.inside.numbers c.self.invariant.keyed c.in_ok-place.ensures.unique c.slot-slot.result det c.slot-slot.ensures (omega (arith, c.if-self-gt1.false)) c.in_ok-place.ensures.new
+    rw (← c.self.view_is) (first_new c.self.inside.entries.entries c.self.inside.numbers c.self.invariant.keyed c.in_ok-place.ensures.unique c.slot-slot.result c.args.det c.slot-slot.ensures (omega (arith, c.if-self-gt1.false)) c.in_ok-place.ensures.new)
 
 pub invariant_of-self-2 : goal.invariant_of-self-2
 invariant_of-self-2 c =
@@ -25,7 +20,5 @@ invariant_of-self-2 c =
 
 pub returns-clause-put : goal.returns-clause-put
 returns-clause-put c =
-    let es = c.self.inside.entries.entries in
-    pushed_log es _ _ (c.args.det, c.args.known.now) c.in_ok-place.ensures.entries
-    (first_new es c.self.inside.numbers c.self.invariant.keyed c.in_ok-place.ensures.unique c.slot-slot.result c.args.det c.slot-slot.ensures (omega (arith, c.if-self-gt1.false)) c.in_ok-place.ensures.new)
-    ∙ ap (λ t. fin.insert (log_of t.entries) c.args.det c.args.known.now) c.self.view_is
+    rw (← c.self.view_is) (pushed_log c.self.inside.entries.entries _ _ (c.args.det, c.args.known.now) c.in_ok-place.ensures.entries
+    (first_new c.self.inside.entries.entries c.self.inside.numbers c.self.invariant.keyed c.in_ok-place.ensures.unique c.slot-slot.result c.args.det c.slot-slot.ensures (omega (arith, c.if-self-gt1.false)) c.in_ok-place.ensures.new))

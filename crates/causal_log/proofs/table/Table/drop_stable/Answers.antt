@@ -1,8 +1,7 @@
 use Rattle.std.proofs.Common.{◌≡◌, ◌∙◌, not, filter, ap, rules, arith}
-use Rattle.causal_log.proofs.TableLemmas.{filtered_table}
+use Rattle.causal_log.proofs.TableLemmas.{filtered_table, values_filter}
 use Rattle.std.specs.Map.{values_of}
 use Rattle.indexmap.proofs.CallerLemmas.{filter-RetainsPairs}
-use Rattle.causal_log.proofs.SlotKeyLemmas.{values_filter}
 use Rattle.causal_log.proofs.table.Table.drop_stable.Goals as goal
 use Rattle.causal_log.proofs.table.Table.drop_stable.Goals.{After-retain}
 

@@ -1,10 +1,9 @@
-use Rattle.std.proofs.Common.{◌∙◌, ap, rules, arith}
+use Rattle.std.proofs.Common.{rules, arith}
 use Rattle.std.proofs.lemmas.List.Sorted.{All-permutation, IsPermutation-map, answers_always}
 use Rattle.std.specs.Map.{values_of}
-use Rattle.causal_log.specs.Logs.{log_of}
 use Rattle.causal_log.specs.Inside.Tables.{HasSlotKey, IsNotLater}
 use Rattle.causal_log.proofs.EntryLemmas.{moved_log, moved_ascend, still_distinct}
-use Rattle.causal_log.proofs.SlotKeyLemmas.{values_sorted}
+use Rattle.causal_log.proofs.TableLemmas.{values_sorted}
 use Rattle.causal_log.proofs.table.Table.sort.Goals as goal
 
 pub invariant_of-self-2 : goal.invariant_of-self-2
@@ -23,9 +22,7 @@ invariant_of-self-2 c =
 
 pub returns-clause-same : goal.returns-clause-same
 returns-clause-same c =
-    let es = c.self.inside.entries.entries in
-    let fs = c.sort_by_key.new.self.entries in
-    moved_log (values_of es) (values_of fs) (IsPermutation-map (λ e. e.1) es fs c.sort_by_key.ensures.reordered.0) c.self.invariant.distinct ∙ ap (λ t. log_of t.entries) c.self.view_is
+    rw (← c.self.view_is) (moved_log (values_of c.self.inside.entries.entries) _ (IsPermutation-map (λ e. e.1) c.self.inside.entries.entries _ c.sort_by_key.ensures.reordered.0) c.self.invariant.distinct)
 
 pub returns-clause-ascending : goal.returns-clause-ascending
 returns-clause-ascending c =
