@@ -31,12 +31,10 @@ use Rattle.causal_core.specs.Inside.MemoryInvariant.{MatchesEntries, AllMatchEnt
 use Rattle.causal_core.specs.Inside.Gathers.{is_logged, listing_fault}
 use Rattle.causal_core.specs.View.{gathering_fault, receivers, with_restart}
 use Rattle.causal_core.specs.Inside.Memories.{keep_all}
-use Rattle.causal_core.proofs.MemoriesFit.{all_from, all_at}
+use Rattle.causal_core.proofs.MemoriesFit.{all_from, all_at, held_fit}
 use Rattle.causal_core.proofs.RuntimeSend.{memories_sends, are_sends}
 use Rattle.causal_core.proofs.Cells.{up_within}
-use Rattle.causal_core.proofs.Legal.{held_fit}
-use Rattle.causal_core.proofs.UpAfterStep.{sends_up}
-use Rattle.causal_core.proofs.StoreEntries.{has_stable, sends_unstable}
+use Rattle.causal_core.proofs.RunAfterStep.{sends_up, has_stable, sends_unstable}
 use Rattle.causal_core.proofs.RestartCounts.{gathered_has}
 
 -- a test that each log passes is passed by each logged determinant

@@ -50,7 +50,7 @@ impl<S: Stable> Core<S> {
     /// most that many processes leave an orphan (Alvisi and Marzullo 1998). No two different determinants that up
     /// processes log, or that are in stable storage, are of the same delivery, at any instant: recoveries follow what
     /// survives.
-    #[tactic(auto, using(crate::proofs::Rules::of_safety))]
+    #[tactic(auto, using(causal_protocol::proofs::Lemmas::KeptByType::invariant_single, causal_protocol::proofs::Lemmas::KeptByType::invariant_followed))]
     pub fn trace(&self) -> &Trace
         ensures recording { result.now.recording ≡ (core_run self.now).recording }
         ensures safe { IsSafeTrace result.now.recording (core_run self.now).faults }
@@ -62,7 +62,7 @@ impl<S: Stable> Core<S> {
 
     /// Returns the recorded trace, without a copy; it is safe and followed like that of `trace`. The processes and the
     /// store are dropped.
-    #[tactic(auto, using(crate::proofs::Rules::of_safety))]
+    #[tactic(auto, using(causal_protocol::proofs::Lemmas::KeptByType::invariant_followed))]
     pub fn into_trace(self) -> Trace
         ensures recording { result.recording ≡ (core_run self).recording }
         ensures safe { IsSafeTrace result.recording (core_run self).faults }
