@@ -1,5 +1,5 @@
 -- A process forgets what it knows to be stable.
-use Rattle.std.proofs.Common.{ℕ, ◌≡◌, ◌<◌, ◌≤◌, ◌∙◌, Bool, true, cond, List, [], ◌∷◌, length, map, Option, None, is_some, sym, ap, arith}
+use Rattle.std.proofs.Common.{ℕ, ◌≡◌, ◌<◌, ◌≤◌, Bool, true, cond, List, [], ◌∷◌, length, map, Option, None, is_some, sym, ap, arith}
 use Rattle.std.specs.Prelude.{not, Result}
 use Rattle.std.specs.List.{list_all}
 use Rattle.std.specs.Option.{option_map, option_map_or}

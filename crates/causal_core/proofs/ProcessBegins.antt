@@ -19,7 +19,7 @@ use Rattle.causal_protocol.specs.Runs.{HaveBegunBelow}
 use Rattle.causal_protocol.specs.Steps.{append_all, sends_of}
 use Rattle.causal_protocol.proofs.Lemmas.StepAppends.{length-pushed}
 use Rattle.causal_core.specs.Boxes.{BoxesBegan}
-use Rattle.causal_core.specs.Inside.MemoryInvariant.{MatchesEntries, MatchesEntriesAt, IsRunData}
+use Rattle.causal_core.specs.Inside.MemoryInvariant.{MatchesEntriesAt, IsRunData}
 use Rattle.causal_core.specs.Inside.Begins.{CanBegin, Begins, HaveBegun}
 use Rattle.causal_core.specs.Starts.{with_beginning, with_beginnings, opening}
 use Rattle.causal_core.specs.View.{RunDataState, receivers, sent_bodies}

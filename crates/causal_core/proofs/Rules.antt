@@ -7,7 +7,7 @@ use Rattle.causal_core.proofs.LegalDelivery.{may_deliver, legal, sent_name, all_
 use Rattle.causal_log.proofs.Lemmas.ChosenLemmas.{chosen_ascend}
 use Rattle.causal_core.proofs.MemoriesFit.{tells_reason, held_fit}
 use Rattle.causal_core.proofs.FlushSteps.{flush_steps, flush_refused, refusal_stores, store_fault_first, stable_may}
-use Rattle.causal_core.proofs.RuntimeRestart.{may_restart, restart_legal, restart_steps, restart_lists, log_listed}
+use Rattle.causal_core.proofs.RuntimeRestart.{may_restart, restart_legal, restart_steps, log_lists}
 use Rattle.causal_core.proofs.Forgotten.{forgot, forgot_nothing, forget_legal, forget_few}
 use Rattle.causal_core.proofs.ReplayDeliveries.{refuses_named, refuses_naming, replayed_none}
 use Rattle.std.proofs.lemmas.List.Sums.{count_by_more_yes, count_by_more_no}
@@ -39,7 +39,7 @@ pub ruleset of_cells = (of_lent, set_read, slice_get-set_same)
 
 pub ruleset of_receiving = (received_few, formed_short)
 
-pub ruleset of_reasons = (tells_reason, restart_lists, log_listed)
+pub ruleset of_reasons = (tells_reason, log_lists)
 
 pub ruleset of_flushing = (flush_steps, flush_refused, refusal_stores, store_fault_first)
 

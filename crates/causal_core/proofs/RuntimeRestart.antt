@@ -102,8 +102,8 @@ unfolding request_refusals
 restart_lists r p listed is = ap (listing_fault r p) is
 
 -- the length of the gathered log is that of the list
-pub log_listed : (r : Run) (p : Pid) (log : LogMap) → log ≡ restart_log (memories_of r) (stable_of r) p → fin.len log ≡ length (restart_list r p)
-log_listed r p log is = fin.len-entries log ∙ sym (length-map (fin.entries log) (λ e. e.0)) ∙ ap (λ m. length (fin.keys m)) is
+pub log_lists : (r : Run) (p : Pid) (log : LogMap) → log ≡ restart_log (memories_of r) (stable_of r) p → listing_fault r p (fin.len log) ≡ request_fault r (Requests.Restart p)
+log_lists r p log is = restart_lists r p (fin.len log) (fin.len-entries log ∙ sym (length-map (fin.entries log) (λ e. e.0)) ∙ ap (λ m. length (fin.keys m)) is)
 
 -- the refusal of a restart with an empty list is that of each restart
 pub none_listed : (r : Run) (p : Pid) (fault : CoreFault) → listing_fault r p 0 ≡ Some fault → request_fault r (Requests.Restart p) ≡ Some fault
