@@ -4,13 +4,12 @@ use Rattle.std.specs.Prelude.{Result, Ok, Err, Option, OnOk, OnErr, IfErr}
 use Rattle.causal_protocol.specs.declared.request.Request.{Request}
 use Rattle.causal_protocol.specs.declared.request.Reply.{Reply}
 use Rattle.causal_protocol.specs.declared.request.Reply.TheVariants as Replies
-use Rattle.causal_protocol.specs.declared.request.Delivered.{Delivered}
 use Rattle.causal_protocol.specs.declared.request.CoreFault.{CoreFault}
 use Rattle.causal_protocol.specs.declared.request.Restarted.{Restarted}
 use Rattle.causal_core.specs.declared.restart.Refused.{Refused}
 use Rattle.causal_core.specs.Restarts.{refused_fault}
 use Rattle.causal_protocol.specs.declared.request.FlushFault.{FlushFault}
-use Rattle.causal_protocol.specs.Steps.{Steps, reply_of_delivery, reply_of_crash, reply_of_flush, reply_of_forget, reply_of_restart}
+use Rattle.causal_protocol.specs.Steps.{Steps, reply_of_flush, reply_of_restart}
 use Rattle.causal_shared.specs.declared.item.Item.{Item}
 use Rattle.causal_shared.specs.declared.item.SeatRecord.{SeatRecord}
 use Rattle.causal_shared.specs.declared.fault.LockedFault.{LockedFault}
