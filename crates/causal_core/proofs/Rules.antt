@@ -9,6 +9,7 @@ use Rattle.causal_core.proofs.MemoriesFit.{tells_reason, held_fit}
 use Rattle.causal_core.proofs.FlushSteps.{flush_steps, flush_refused, refusal_stores, store_fault_first, stable_may}
 use Rattle.causal_core.proofs.RuntimeRestart.{may_restart, restart_legal, restart_steps, log_lists}
 use Rattle.causal_core.proofs.Forgotten.{forgot, forgot_nothing, forget_legal, forget_few}
+use Rattle.causal_protocol.proofs.Lemmas.KeptByType.{invariant_single, invariant_followed}
 use Rattle.causal_core.proofs.ReplayDeliveries.{refuses_named, refuses_naming, replayed_none}
 use Rattle.std.proofs.lemmas.List.Sums.{count_by_more_yes, count_by_more_no}
 use Rattle.causal_core.proofs.BoxLemmas.{answers_at-set_other, answers_at-set_same}
@@ -50,6 +51,8 @@ pub ruleset of_recording = (may_deliver, legal, sent_name, all_delivered, chosen
 pub ruleset of_restarting = (may_restart, restart_legal, chosen_ascend, restart_steps, length-map)
 
 pub ruleset of_replaying = (refuses_named, refuses_naming, replayed_none)
+
+pub ruleset of_safety = (invariant_single, invariant_followed)
 
 pub ruleset of_marking = (held_fit, stable_may, reverse-append)
 

@@ -50,7 +50,7 @@ impl<S: Stable> Core<S> {
     /// most that many processes leave an orphan (Alvisi and Marzullo 1998). No two different determinants that up
     /// processes log, or that are in stable storage, are of the same delivery, at any instant: recoveries follow what
     /// survives.
-    #[tactic(auto, using(causal_protocol::proofs::Lemmas::KeptByType::invariant_single, causal_protocol::proofs::Lemmas::KeptByType::invariant_followed))]
+    #[tactic(auto, using(crate::proofs::Rules::of_safety))]
     pub fn trace(&self) -> &Trace
         ensures recording { result.now.recording ≡ (core_run self.now).recording }
         ensures safe { IsSafeTrace result.now.recording (core_run self.now).faults }
