@@ -1,5 +1,5 @@
 -- A process forgets what it knows to be stable.
-use Rattle.std.proofs.Common.{ℕ, ◌≡◌, ◌<◌, ◌≤◌, ◌∙◌, Bool, true, cond, List, [], ◌∷◌, length, map, Option, None, is_some, sym, ap, arith}
+use Rattle.std.proofs.Common.{ℕ, ◌≡◌, ◌<◌, ◌≤◌, Bool, true, cond, List, [], ◌∷◌, length, map, Option, None, is_some, sym, ap, arith}
 use Rattle.std.specs.Prelude.{not, Result}
 use Rattle.std.specs.List.{list_all}
 use Rattle.std.specs.Option.{option_map, option_map_or}
@@ -20,10 +20,9 @@ use Rattle.causal_protocol.specs.Refusals.{request_refusals, request_fault, dets
 use Rattle.causal_protocol.specs.Steps.{LegalStep, Steps, extend_run, forget_entries, reply_of_forget}
 use Rattle.causal_protocol.specs.declared.request.CoreFault.{CoreFault}
 use Rattle.causal_trace.specs.Past.{is_stable, list_has}
-use Rattle.causal_core.proofs.UpAfterStep.{changed_up}
+use Rattle.causal_core.proofs.RunAfterStep.{changed_up}
 use Rattle.causal_core.specs.Inside.MemoryInvariant.{MatchesEntriesAt, AllMatchEntries, IsRunData}
-use Rattle.causal_core.proofs.MemoriesFit.{all_within, fits_other, all_fit_set, placed_more}
-use Rattle.causal_core.proofs.Legal.{there, fits_up}
+use Rattle.causal_core.proofs.MemoriesFit.{all_within, fits_other, all_fit_set, placed_more, there, fits_up}
 use Rattle.causal_log.proofs.Lemmas.LogLists.{keys_logged, stable_ascends, stable_listed, get_unmarked}
 
 get_without : (log : LogMap) (ds : List Det) (d : Det) → fin.get (without_dets ds log) d ≡ cond (not (list_has ds d)) (fin.get log d) None
@@ -86,17 +85,11 @@ appended_is : (r next : Run) (p : Pid) (told : Result ℕ CoreFault) → Steps r
 unfolding LegalStep
 appended_is r next p told h = grind arith
 
-filled_by : (r : Run) (p : Pid) (ds : List Det) → map is_some (memories_of (extend_run r (Requests.Forget p) (forget_entries p ds))) ≡ map is_some (memories_of r)
-unfolding memories
-filled_by r p ds = grind (arith, changed_up)
-
-stable_by : (r : Run) (p : Pid) (ds : List Det) (x : Det) → is_stable (extend_run r (Requests.Forget p) (forget_entries p ds)).recording.past x ≡ is_stable r.recording.past x
-stable_by r p ds x = grind arith
-
 -- a forget changes neither which processes are up nor what is stable
 module _ (r next : Run) (p : Pid) (told : Result ℕ CoreFault) (s : Steps r (Requests.Forget p) (reply_of_forget told) next) where
   pub forget_filled : map is_some (memories_of next) ≡ map is_some (memories_of r)
-  forget_filled = let a = appended_is r next p told s in ap (λ x. map is_some (memories_of x)) a.1 ∙ filled_by r p a.0
+  unfolding memories
+  forget_filled = let a = appended_is r next p told s in grind (arith, a, changed_up)
 
   pub forget_stable : (d : Det) → is_stable next.recording.past d ≡ is_stable r.recording.past d
-  forget_stable d = let a = appended_is r next p told s in ap (λ x. is_stable x.recording.past d) a.1 ∙ stable_by r p a.0 d
+  forget_stable d = let a = appended_is r next p told s in grind (arith, a)

@@ -11,7 +11,7 @@ use Rattle.causal_name.specs.Names.{same_message}
 use Rattle.causal_protocol.specs.Memory.{Memory, Memories, present_at, sent_message_of}
 use Rattle.causal_protocol.specs.Naming.{message_name}
 use Rattle.causal_core.specs.Pendings.{is_pending, names_sent, names_from, PendingIsExact}
-use Rattle.causal_core.proofs.Legal.{there, kept_by}
+use Rattle.causal_core.proofs.MemoriesFit.{there, kept_by}
 
 same_is : (a b : MsgName) → same_message a b ≡ true → a ≡ b
 same_is a b h = grind arith

@@ -19,24 +19,20 @@ use Rattle.causal_protocol.specs.Runs.{HaveBegunBelow}
 use Rattle.causal_protocol.specs.Steps.{append_all, sends_of}
 use Rattle.causal_protocol.proofs.Lemmas.StepAppends.{length-pushed}
 use Rattle.causal_core.specs.Boxes.{BoxesBegan}
-use Rattle.causal_core.specs.Inside.MemoryInvariant.{MatchesEntries, MatchesEntriesAt, IsRunData}
+use Rattle.causal_core.specs.Inside.MemoryInvariant.{MatchesEntriesAt, IsRunData}
 use Rattle.causal_core.specs.Inside.Begins.{CanBegin, Begins, HaveBegun}
 use Rattle.causal_core.specs.Starts.{with_beginning, with_beginnings, opening}
 use Rattle.causal_core.specs.View.{RunDataState, receivers, sent_bodies}
 use Rattle.causal_core.specs.Inside.Memories.{keep_all}
 use Rattle.causal_core.proofs.RuntimeSend.{set_same, memories_sends, are_sends, receivers_long, addressed_few, sends_length}
 use Rattle.causal_core.proofs.BoxLemmas.{Began-push}
-use Rattle.causal_core.proofs.UpAfterStep.{sends_up}
-use Rattle.causal_core.proofs.StoreEntries.{sends_unstable}
+use Rattle.causal_core.proofs.RunAfterStep.{sends_up, sends_unstable}
 use Rattle.causal_core.proofs.MemoriesFit.{all_from}
 use Rattle.causal_log.proofs.Lemmas.LogLists.{keys_logged}
 
 -- an empty log passes each test
 pub none_pass : (P : Det → Bool) (log : LogMap) → log ≡ fin.empty → list_all P (fin.keys log) ≡ true
 none_pass P log is = all_from P (fin.keys log) (λ d there. grind (arith, is, there, keys_logged log d, fin.get-empty))
-
-fits_first : (p : ℕ) → MatchesEntries [] p (new_memory fin.empty)
-fits_first p = grind (arith, none_pass)
 
 at_replicate : {X : Type 0} (n p : ℕ) (x : Option X) → p < n → present_at (replicate n x) p ≡ x
 at_replicate n p x h = grind (arith, slice_get-get_or (replicate n x) p x, get_or-replicate, length-replicate)
@@ -48,7 +44,7 @@ fresh_held n f ms count is = record {
   same = is;
   fit = record {
     count = ap length is ∙ length-replicate n (Some (new_memory fin.empty));
-    each = λ p h. subst (MatchesEntriesAt [] p) (sym (ap (λ xs. present_at xs p) is ∙ at_replicate n p (Some (new_memory fin.empty)) h)) (fits_first p);
+    each = λ p h. subst (MatchesEntriesAt [] p) (sym (ap (λ xs. present_at xs p) is ∙ at_replicate n p (Some (new_memory fin.empty)) h)) (grind (arith, none_pass));
   };
   formed = record { count = count; accepted = tt };
 }
@@ -76,9 +72,6 @@ began_sends answers [] sends slots h = grind arith
 began_sends answers (each ∷ others) sends slots h = grind (arith, began_sends answers others)
 
 module _ {B : Type 0} (answers : B → List Input → List (List Outgoing)) where
-  pub slots_long : (n f : ℕ) (boxes : List B) (slots : List (Option B)) (d : RunDataState) → HaveBegun answers n f boxes slots d → length slots ≡ length boxes
-  slots_long n f boxes slots d h = (began_sends answers boxes h.sends slots h.began).1
-
   -- before any box began
   pub none_begun : (n f : ℕ) (d : RunDataState) (slots : List (Option B)) → slots ≡ [] → d.run ≡ opening n f [] → d.bodies ≡ replicate n [] → HaveBegun answers n f [] slots d
   unfolding with_beginnings memories
@@ -151,4 +144,4 @@ none_stored n f sends r s is none d = grind (arith, fin.get-empty, beginnings_un
 
 -- the next box can begin
 pub may_begin : {B : Type 0} (answers : B → List Input → List (List Outgoing)) (n f : ℕ) (boxes : List B) (slots : List (Option B)) (d : RunDataState) → HaveBegun answers n f boxes slots d → length boxes < n → n ≤ 256 → CanBegin (length slots) d.run
-may_begin answers n f boxes slots d h low few = grind (arith, slots_long answers n f boxes slots d h)
+may_begin answers n f boxes slots d h low few = grind (arith, began_sends answers boxes h.sends slots h.began)

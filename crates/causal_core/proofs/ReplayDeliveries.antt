@@ -20,11 +20,6 @@ use Rattle.causal_core.specs.Replays.{Redelivery, inputs_of, sends_in, IsRefused
 use Rattle.causal_process.specs.declared.message.Input.TheVariants.{Message as Given}
 use Rattle.causal_core.proofs.BoxLemmas.{told_more}
 
--- the `Delivered` value of a delivery names its message
-told_message : (r next : Run) (q : Pid) (m : MsgName) (d : Delivered) → Steps r (Requests.Deliver q m.source m.ssn) (Replies.Delivered d) next → m ≡ message_of d.det
-unfolding LegalStep
-told_message r next q m d s = sym (ap message_of s.legal.2)
-
 -- if m is named, the refusal of its delivery is that of q's next delivery
 pub refuses_named : (r next : Run) (q : Pid) (m : MsgName) (fault : CoreFault) → named_message_of r q ≡ Ok (Some m) → Steps r (Requests.Deliver q m.source m.ssn) (Replies.Refused fault) next → RefusesNamed r q fault
 unfolding LegalStep
@@ -37,8 +32,9 @@ refuses_naming r q fault named = subst (IsRefused r q fault) (sym named) refl
 module _ {B : Type 0} (answers : B → List Input → List (List Outgoing)) (p : Pid) where
   -- a delivery of the named message is one of a replay
   pub redelivered : (m : MsgName) (d : Delivered) (old new : CoreState B) → named_message_of old.run p ≡ Ok (Some m) → Steps old.run (Requests.Deliver p m.source m.ssn) (Replies.Delivered d) new.run → Delivers answers p m.source m.ssn old new → IsReplayStep answers p (Some d) old new
+  unfolding LegalStep
   redelivered m d old new named step delivers =
-      let here : m ≡ message_of d.det = told_message old.run new.run p m d step in
+      let here : m ≡ message_of d.det = sym (ap message_of step.legal.2) in
       let moved : Delivers answers p (message_of d.det).source (message_of d.det).ssn old new = subst (λ x. Delivers answers p x.source x.ssn old new) here delivers in (
         record { delivered = d; input = Given d.det.source (body_at old.bodies (message_of d.det)); sends = moved.sends },
         record {
@@ -50,30 +46,23 @@ module _ {B : Type 0} (answers : B → List Input → List (List Outgoing)) (p :
         },
       )
 
-  module _ (old mid new : CoreState B) where
-    pub unchanged_twice : IsUnchanged answers old mid → IsUnchanged answers mid new → IsUnchanged answers old new
-    unchanged_twice a b = record { run = b.run ∙ a.run; bodies = b.bodies ∙ a.bodies; boxes = λ q inputs. b.boxes q inputs ∙ a.boxes q inputs }
-
-    abbrev delivered_on : (source : Pid) (ssn : ℕ) → Delivers answers p source ssn old mid → IsUnchanged answers mid new → Delivers answers p source ssn old new
-    delivered_on source ssn d u = record {
-      sends = d.sends;
-      box = λ inputs. d.box inputs ∙ ap (prepend_answer d.sends) (sym (u.boxes p.0 inputs));
-      others = λ q inputs apart. u.boxes q inputs ∙ d.others q inputs apart;
-      run = u.run ∙ d.run;
-      bodies = u.bodies ∙ d.bodies;
-    }
-
-    redelivered_on : (x : Redelivery) → Redelivers answers p x old mid → IsUnchanged answers mid new → Redelivers answers p x old new
-    redelivered_on x r u = record {
-      named = r.named;
-      step = subst (λ run. Steps old.run (Requests.Deliver p x.delivered.det.source x.delivered.det.ssn) (Replies.Delivered x.delivered) run) (sym u.run) r.step;
-      given = r.given;
-      delivers = delivered_on x.delivered.det.source x.delivered.det.ssn r.delivers u;
-      sent = r.sent;
-    }
+  redelivered_on : (old mid new : CoreState B) (x : Redelivery) → Redelivers answers p x old mid → IsUnchanged answers mid new → Redelivers answers p x old new
+  redelivered_on old mid new x r u = record {
+    named = r.named;
+    step = subst (λ run. Steps old.run (Requests.Deliver p x.delivered.det.source x.delivered.det.ssn) (Replies.Delivered x.delivered) run) (sym u.run) r.step;
+    given = r.given;
+    delivers = record {
+      sends = r.delivers.sends;
+      box = λ inputs. r.delivers.box inputs ∙ ap (prepend_answer r.delivers.sends) (sym (u.boxes p.0 inputs));
+      others = λ q inputs apart. u.boxes q inputs ∙ r.delivers.others q inputs apart;
+      run = u.run ∙ r.delivers.run;
+      bodies = u.bodies ∙ r.delivers.bodies;
+    };
+    sent = r.sent;
+  }
 
   replays_on : (xs : List Redelivery) (old mid new : CoreState B) → Replays answers p xs old mid → IsUnchanged answers mid new → Replays answers p xs old new
-  replays_on [] old mid new r u = unchanged_twice old mid new r u
+  replays_on [] old mid new r u = record { run = u.run ∙ r.run; bodies = u.bodies ∙ r.bodies; boxes = λ q inputs. u.boxes q inputs ∙ r.boxes q inputs }
   replays_on (x ∷ xs) old mid new r u = (r.0, r.1, redelivered_on r.0 mid new x r.2 u)
 
   -- a replay of no deliveries

@@ -20,7 +20,7 @@ use Rattle.causal_log.proofs.Lemmas.StoreSets.{listed, stored}
 use Rattle.causal_protocol.specs.Memory.{Memory, Memories}
 use Rattle.causal_protocol.specs.Gathering.{with_logs_of, with_held, with_stored, restart_log}
 use Rattle.causal_core.specs.Inside.Gathers.{is_logged}
-use Rattle.causal_core.proofs.StoreEntries.{same_unit}
+use Rattle.causal_core.proofs.RunAfterStep.{same_unit}
 
 -- the union of all logs has a determinant exactly if one of the logs has it
 united_has : (ms : Memories) (log : LogMap) (d : Det) → is_some (fin.get (with_logs_of ms log) d) ≡ (is_some (fin.get log d) || is_logged ms d)
@@ -43,12 +43,11 @@ pub gathered_has : (ms : Memories) (stored : DetSet) (p : Pid) (d : Det) → is_
 gathered_has ms stored p d = grind (arith, united_has, fin.get-empty, stable_has, held_has, keys_logged, listed)
 
 -- a set with these members added
-with_all : List Det → DetSet → DetSet
+abbrev with_all : List Det → DetSet → DetSet
 with_all [] s = s
 with_all (d ∷ ds) s = with_det (with_all ds s) d
 
 all_have : (ds : List Det) (s : DetSet) (d : Det) → set_has (with_all ds s) d ≡ (set_has s d || list_any (same_det d) ds)
-unfolding with_all
 all_have [] s d = or_nothing (set_has s d)
 all_have (x ∷ ds) s d = grind (arith, all_have ds s d, stored)
 
@@ -58,7 +57,6 @@ once d ds h = grind (arith, first_before d ds d, before_apart d d, same_itself d
 
 -- adding a list to a set adds as many members as the list has that are not in the set
 all_count : (ds : List Det) (s : DetSet) → is_ascending ds ≡ true → count_in (with_all ds s) ≡ count_in s + length (filter (λ d. not (set_has s d)) ds)
-unfolding with_all
 all_count [] s h = omega arith
 all_count (d ∷ ds) s h = grind (arith, all_count ds s (ascending_tail d ds h), all_have ds s d, once d ds h, fin.len-insert, dets_total)
 
@@ -67,48 +65,34 @@ all_new [] = refl
 all_new (d ∷ ds) = grind (arith, all_new ds, fin.get-empty)
 
 -- a set with the determinants of these logs added
-everything : Memories → DetSet → DetSet
+abbrev everything : Memories → DetSet → DetSet
 everything [] s = s
 everything (None ∷ ms) s = everything ms s
 everything (Some m ∷ ms) s = everything ms (with_all (fin.keys m.log) s)
 
 every_has : (ms : Memories) (s : DetSet) (d : Det) → set_has (everything ms s) d ≡ (set_has s d || is_logged ms d)
-unfolding everything
 every_has [] s d = grind arith
 every_has (each ∷ others) s d = grind (arith, every_has others, all_have, keys_logged)
 
 every_last : (ms : Memories) (m : Memory) (s : DetSet) → everything (ms ++ Some m ∷ []) s ≡ with_all (fin.keys m.log) (everything ms s)
-unfolding everything
 every_last [] m s = grind arith
 every_last (each ∷ others) m s = grind (arith, every_last others)
 
-every_down : (ms : Memories) (s : DetSet) → everything (ms ++ None ∷ []) s ≡ everything ms s
-unfolding everything
+-- a down process adds none
+pub every_down : (ms : Memories) (s : DetSet) → everything (ms ++ None ∷ []) s ≡ everything ms s
 every_down [] s = grind arith
 every_down (each ∷ others) s = grind (arith, every_down others)
 
 -- the number of determinants in a set and these logs
-pub count_all : Memories → DetSet → ℕ
+abbrev pub count_all : Memories → DetSet → ℕ
 count_all ms s = count_in (everything ms s)
-
--- without logs this is the number of members of the set
-pub count_none : (s : DetSet) → count_all [] s ≡ count_in s
-unfolding count_all everything
-count_none s = refl
-
--- a down process adds none
-pub count_down : (ms : Memories) (s : DetSet) → count_all (ms ++ None ∷ []) s ≡ count_all ms s
-unfolding count_all
-count_down ms s = ap count_in (every_down ms s)
 
 -- one more log adds the determinants that neither the set nor an earlier log has
 pub count_more : (ms : Memories) (m : Memory) (s : DetSet) → count_all (ms ++ Some m ∷ []) s ≡ count_all ms s + count_by (λ d. not (set_has s d || is_logged ms d)) (fin.keys m.log)
-unfolding count_all
 count_more ms m s = grind (arith, every_last, all_count, map_ascends, every_has, length-filter)
 
 -- the number of determinants in the store and the logs is that of a restart's list
 pub count_gathered : (ms : Memories) (s : DetSet) (p : Pid) → count_all ms s ≡ length (fin.keys (restart_log ms s p))
-unfolding count_all
 count_gathered ms s p =
     let ds = fin.keys (restart_log ms s p) in
     let new = all_count ds fin.empty (map_ascends (restart_log ms s p)) in

@@ -31,12 +31,10 @@ use Rattle.causal_core.specs.Inside.MemoryInvariant.{MatchesEntries, AllMatchEnt
 use Rattle.causal_core.specs.Inside.Gathers.{is_logged, listing_fault}
 use Rattle.causal_core.specs.View.{gathering_fault, receivers, with_restart}
 use Rattle.causal_core.specs.Inside.Memories.{keep_all}
-use Rattle.causal_core.proofs.MemoriesFit.{all_from, all_at}
+use Rattle.causal_core.proofs.MemoriesFit.{all_from, all_at, held_fit}
 use Rattle.causal_core.proofs.RuntimeSend.{memories_sends, are_sends}
 use Rattle.causal_core.proofs.Cells.{up_within}
-use Rattle.causal_core.proofs.Legal.{held_fit}
-use Rattle.causal_core.proofs.UpAfterStep.{sends_up}
-use Rattle.causal_core.proofs.StoreEntries.{has_stable, sends_unstable}
+use Rattle.causal_core.proofs.RunAfterStep.{sends_up, has_stable, sends_unstable}
 use Rattle.causal_core.proofs.RestartCounts.{gathered_has}
 
 -- a test that each log passes is passed by each logged determinant
@@ -104,8 +102,8 @@ unfolding request_refusals
 restart_lists r p listed is = ap (listing_fault r p) is
 
 -- the length of the gathered log is that of the list
-pub log_listed : (r : Run) (p : Pid) (log : LogMap) → log ≡ restart_log (memories_of r) (stable_of r) p → fin.len log ≡ length (restart_list r p)
-log_listed r p log is = fin.len-entries log ∙ sym (length-map (fin.entries log) (λ e. e.0)) ∙ ap (λ m. length (fin.keys m)) is
+pub log_lists : (r : Run) (p : Pid) (log : LogMap) → log ≡ restart_log (memories_of r) (stable_of r) p → listing_fault r p (fin.len log) ≡ request_fault r (Requests.Restart p)
+log_lists r p log is = restart_lists r p (fin.len log) (fin.len-entries log ∙ sym (length-map (fin.entries log) (λ e. e.0)) ∙ ap (λ m. length (fin.keys m)) is)
 
 -- the refusal of a restart with an empty list is that of each restart
 pub none_listed : (r : Run) (p : Pid) (fault : CoreFault) → listing_fault r p 0 ≡ Some fault → request_fault r (Requests.Restart p) ≡ Some fault

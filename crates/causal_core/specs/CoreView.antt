@@ -9,8 +9,7 @@ use Rattle.causal_protocol.specs.declared.request.CoreFault.{CoreFault}
 use Rattle.causal_protocol.specs.Run.{Run}
 use Rattle.causal_protocol.specs.Naming.{message_name}
 use Rattle.causal_core.specs.Boxes.{SameAnswers, SameElsewhere, StepsAt, HoldsNone}
-use Rattle.causal_core.specs.View.{body_at, sent_in, with_delivery}
-use Rattle.causal_core.specs.View.{with_bodies}
+use Rattle.causal_core.specs.View.{body_at, sent_in, with_delivery, with_bodies}
 
 -- the run, the bodies of the kept messages, and the boxes in their slots
 pub record CoreState (B : Type 0) : Type 0 where

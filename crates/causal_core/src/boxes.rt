@@ -1,8 +1,7 @@
 //! The boxes of the up processes, in slots.
 ghost use Rattle.std.specs.Prelude.{◌≡◌, ◌≤◌, ◌<◌, length, map, is_some, slice_set, true, false, IfOk, OnErr, vec_len};
 ghost use Rattle.causal_process.specs.declared.message.Input.TheVariants.{Begin};
-ghost use Rattle.causal_core.specs.Boxes.{box_answers, AnswersUnchanged, HoldsBox, HoldsNone};
-ghost use Rattle.causal_core.specs.Boxes.{SameElsewhere};
+ghost use Rattle.causal_core.specs.Boxes.{box_answers, AnswersUnchanged, HoldsBox, HoldsNone, SameElsewhere};
 ghost use Rattle.causal_core.specs.Inside.Slots.{HasBox, BoxSteps, IsStepResult, SlotSteps};
 
 use causal_name::NoMemory;

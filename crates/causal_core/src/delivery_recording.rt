@@ -6,11 +6,9 @@ ghost use Rattle.causal_trace.specs.Past.{message_at};
 ghost use Rattle.causal_trace.specs.Rows.{IsWellFormed};
 ghost use Rattle.causal_protocol.specs.Memory.{present_at};
 ghost use Rattle.causal_core.specs.Inside.MemoryInvariant.{MatchesEntries, AllMatchEntries};
-ghost use Rattle.causal_core.specs.Inside.DeliveryRecords.{planned_entry, memory_after_step, memories_after_step, with_step};
-ghost use Rattle.causal_core.specs.Inside.DeliveryRecords.{IsBatchDelivered, IsLogDelivered, IsLegalNext, OthersStillFit};
+ghost use Rattle.causal_core.specs.Inside.DeliveryRecords.{planned_entry, memory_after_step, memories_after_step, with_step, IsBatchDelivered, IsLogDelivered, IsLegalNext, OthersStillFit};
 ghost use Rattle.causal_memory.specs.ProcessMemories.{memory_of, bodies_of, capacity_of};
-ghost use Rattle.causal_core.specs.Inside.Memories.{memories_in, memory_at, bodies_in};
-ghost use Rattle.causal_core.specs.Inside.Memories.{capacities_in, capacity_at};
+ghost use Rattle.causal_core.specs.Inside.Memories.{memories_in, memory_at, bodies_in, capacities_in, capacity_at};
 ghost use Rattle.causal_core.specs.View.{receivers, sent_bodies, with_bodies};
 ghost use Rattle.causal_trace.specs.Limits.{max_entries};
 ghost use Rattle.causal_memory.specs.DeliveryPlans.{log_after_plan};
@@ -83,7 +81,7 @@ pub(crate) fn record_delivery(
 }
 
 /// Records a delivery to process q, whose memory is an element of the list, and its sends.
-#[tactic(auto, using(crate::proofs::Rules::of_cells))]
+#[tactic(auto, using(crate::proofs::Rules::of_lent))]
 pub(crate) fn record_delivery_at(
     trace: &mut Trace,
     process_memories: &mut Vec<Option<ProcessMemory>>,

@@ -9,8 +9,7 @@ ghost use Rattle.causal_protocol.specs.Steps.{flush_reason_of, Steps, reply_of_f
 ghost use Rattle.causal_core.specs.Boxes.{SameAnswers};
 ghost use Rattle.causal_core.specs.Inside.Memories.{log_at};
 ghost use Rattle.causal_core.specs.Flushes.{HasFailed, FaultMeansFailure, StoreFaultIsFirst};
-ghost use Rattle.causal_core.specs.Inside.Stables.{written_count, IsStored};
-ghost use Rattle.causal_core.specs.Inside.Stables.{run_after_flush};
+ghost use Rattle.causal_core.specs.Inside.Stables.{written_count, IsStored, run_after_flush};
 ghost use Rattle.causal_core.specs.CoreView.{core_run, core_state, core_store};
 ghost use Rattle.causal_trace.specs.Limits.{max_entries};
 
@@ -60,7 +59,6 @@ fn flush_one<S: Stable>(
 }
 
 /// Stores determinants of p's log, in order; each gets its stable entry and its mark. Returns their number.
-#[tactic(auto, using(crate::proofs::Rules::of_writing))]
 fn flush_all<S: Stable>(
     run_data: &mut RunData,
     store: &mut S,

@@ -11,19 +11,13 @@ ghost use Rattle.causal_protocol.specs.Run.{memories_of, stable_of};
 ghost use Rattle.causal_protocol.specs.Naming.{message_name, next_rsn};
 ghost use Rattle.causal_protocol.specs.Refusals.{request_fault, restart_list};
 ghost use Rattle.causal_protocol.specs.Steps.{Steps, reply_of_crash};
-ghost use Rattle.causal_core.specs.Inside.Stables.{IsStored};
+ghost use Rattle.causal_core.specs.Inside.Stables.{IsStored, run_after_flush};
 ghost use Rattle.causal_core.specs.Inside.DeliveryRecords.{delivery_request_of};
 ghost use Rattle.causal_core.specs.Inside.Limits.{exceeds_limits_with, exceeds_entries_with};
-ghost use Rattle.causal_core.specs.Inside.Stables.{run_after_flush};
 ghost use Rattle.causal_memory.specs.ProcessMemories.{with_stable};
-ghost use Rattle.causal_core.specs.View.{sent_in};
-ghost use Rattle.causal_core.specs.Inside.Memories.{log_at, memories_in, bodies_in};
-ghost use Rattle.causal_core.specs.View.{gathering_fault, named_message_of, with_delivery};
-ghost use Rattle.causal_core.specs.Inside.Memories.{stored_for};
-ghost use Rattle.causal_core.specs.View.{with_bodies};
-ghost use Rattle.causal_core.specs.View.{IsFirstRefusal};
+ghost use Rattle.causal_core.specs.View.{sent_in, gathering_fault, named_message_of, with_delivery, with_bodies, IsFirstRefusal};
+ghost use Rattle.causal_core.specs.Inside.Memories.{log_at, memories_in, bodies_in, stored_for, HasCapacity};
 ghost use Rattle.causal_core.specs.Inside.DeliveryPlans.{IsDeliveryPlan};
-ghost use Rattle.causal_core.specs.Inside.Memories.{HasCapacity};
 ghost use Rattle.causal_trace.specs.Limits.{max_entries};
 
 use crate::delivery_recording::{record_delivery_at, reserve_delivery_at};
@@ -167,7 +161,7 @@ impl RunData {
     }
 
     /// Records a crash of process p, and drops its memory.
-    #[tactic(auto, unfolding(causal_protocol::specs::Steps::LegalStep), using(crate::proofs::Rules::of_crashing))]
+    #[tactic(auto, unfolding(causal_protocol::specs::Steps::LegalStep), using(crate::proofs::MemoriesFit::tells_reason))]
     pub(crate) fn crash(&mut self, p: Pid) -> Result<u32, CoreFault>
         ensures step { Steps self.old.run (Requests.Crash p) (reply_of_crash result) self.new.run }
         ensures ok { OnOk result (self.new.bodies ≡ slice_set self.old.bodies p.0 []) }
@@ -277,7 +271,7 @@ impl RunData {
     }
 
     /// Checks a delivery, and makes everything that it must allocate: its plan and the reserved capacity.
-    #[tactic(auto, using(crate::proofs::Legal::tells_reason))]
+    #[tactic(auto, using(crate::proofs::MemoriesFit::tells_reason))]
     pub(crate) fn prepare(
         &mut self,
         alloc: Global,
@@ -310,7 +304,7 @@ impl RunData {
     }
 
     /// Records a delivery to q and its sends, after the box has stepped.
-    #[tactic(auto, using(crate::proofs::Rules::of_delivering))]
+    #[tactic(auto, using(crate::proofs::LegalDelivery::delivery_steps))]
     pub(crate) fn finish(&mut self, q: Pid, grown: DeliveryPlan, sends: Vec<Outgoing>) -> Delivered
         requires legal { request_fault self.old.run (delivery_request_of q grown) ≡ None }
         requires grown { IsDeliveryPlan self.old q (message_of grown.own) grown }
@@ -327,6 +321,7 @@ impl RunData {
         let first = self.trace.len();
         let det = grown.own;
         let f = self.faults;
+        #[tactic(auto, using(crate::proofs::Rules::of_recording))]
         let sends = record_delivery_at(
             &mut self.trace,
             &mut self.process_memories,

@@ -85,7 +85,7 @@ impl RunData {
     }
 
     /// Checks a flush of p, and returns the determinants that it writes, with reserved capacity for their entries.
-    #[tactic(auto, using(crate::proofs::Rules::of_reasons))]
+    #[tactic(auto, using(crate::proofs::MemoriesFit::tells_reason))]
     pub(crate) fn prepare_flush(&mut self, alloc: Global, p: Pid) -> Result<Vec<Det>, CoreFault>
         ensures run { self.new.run ≡ self.old.run }
         ensures bodies { self.new.bodies ≡ self.old.bodies }

@@ -118,7 +118,7 @@ impl RunData {
     ///
     /// # Errors
     /// If allocation failed, the first refusal of the restart that applies, or `NoMemory` if none does.
-    #[tactic(auto, using(crate::proofs::Legal::reason_or))]
+    #[tactic(auto, using(crate::proofs::MemoriesFit::reason_or))]
     fn restart_log<S: Stable>(
         &self,
         alloc: Global,

@@ -62,7 +62,7 @@ impl<S: Stable> Core<S> {
 
     /// Returns the recorded trace, without a copy; it is safe and followed like that of `trace`. The processes and the
     /// store are dropped.
-    #[tactic(auto, using(crate::proofs::Rules::of_safety))]
+    #[tactic(auto, using(causal_protocol::proofs::Lemmas::KeptByType::invariant_followed))]
     pub fn into_trace(self) -> Trace
         ensures recording { result.recording ≡ (core_run self).recording }
         ensures safe { IsSafeTrace result.recording (core_run self).faults }

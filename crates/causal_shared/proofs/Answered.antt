@@ -1,16 +1,15 @@
 -- Results of core calls, and the item replies that the locked value stores for them.
-use Rattle.std.proofs.Common.{arith, ◌≡◌, ◌++◌, ◌∷◌, [], ℕ, List, length, Some}
-use Rattle.std.specs.Prelude.{Option, Result, OnOk, OnErr, IfErr}
+use Rattle.std.proofs.Common.{◌≡◌, subst, IfOk, arith, ◌++◌, ◌∷◌, [], ℕ, List, length, Some}
+use Rattle.std.specs.Prelude.{Result, Ok, Err, Option, OnOk, OnErr, IfErr}
 use Rattle.causal_protocol.specs.declared.request.Request.{Request}
 use Rattle.causal_protocol.specs.declared.request.Reply.{Reply}
 use Rattle.causal_protocol.specs.declared.request.Reply.TheVariants as Replies
-use Rattle.causal_protocol.specs.declared.request.Delivered.{Delivered}
 use Rattle.causal_protocol.specs.declared.request.CoreFault.{CoreFault}
 use Rattle.causal_protocol.specs.declared.request.Restarted.{Restarted}
 use Rattle.causal_core.specs.declared.restart.Refused.{Refused}
 use Rattle.causal_core.specs.Restarts.{refused_fault}
 use Rattle.causal_protocol.specs.declared.request.FlushFault.{FlushFault}
-use Rattle.causal_protocol.specs.Steps.{Steps, reply_of_delivery, reply_of_crash, reply_of_flush, reply_of_forget, reply_of_restart}
+use Rattle.causal_protocol.specs.Steps.{Steps, reply_of_flush, reply_of_restart}
 use Rattle.causal_shared.specs.declared.item.Item.{Item}
 use Rattle.causal_shared.specs.declared.item.SeatRecord.{SeatRecord}
 use Rattle.causal_shared.specs.declared.fault.LockedFault.{LockedFault}
@@ -23,6 +22,16 @@ use Rattle.causal_shared.specs.Inside.ItemAppends.{PreservesInvariant}
 use Rattle.causal_shared.specs.Locked.{item_reply as item_told, restart_item_reply as again, ItemCall}
 use Rattle.causal_shared.specs.Inside.ResultConversions.{map_refusal, core_refusal}
 
+module _ {A E : Type 0} where
+  -- a property of each `Ok` value holds of this one
+  pub holds : (r : Result A E) (x : A) (P : A → Type 0) → r ≡ Ok x → IfOk r P → P x
+  holds r x P is h = subst (λ r. IfOk r P) is h
+
+  -- if two properties of an `Ok` value imply a third, the third holds
+  pub both_hold : (r : Result A E) (P Q R : A → Type 0) → ((x : A) → P x → Q x → R x) → IfOk r P → IfOk r Q → IfOk r R
+  both_hold (Ok x) P Q R from p q = from x p q
+  both_hold (Err e) P Q R from p q = tt
+
 -- a property of a result also holds of the item reply made from it
 module _ {A E F : Type 0} (refusal : E → F) where
   pub ok_answered : (P : Type 0) (a : Result A E) (told : Result A F) → told ≡ map_refusal refusal a → OnOk a P → OnOk told P
@@ -34,17 +43,11 @@ module _ {A E F : Type 0} (refusal : E → F) where
   pub if_err_answered : (P : E → Type 0) (Q : F → Type 0) (a : Result A E) (told : Result A F) → told ≡ map_refusal refusal a → ((e : E) → P e → Q (refusal e)) → IfErr a P → IfErr told Q
   if_err_answered P Q a told is from p = grind (arith, from, p)
 
-pub tells_delivery : (a : Result Delivered CoreFault) (told : Result Delivered LockedFault) → told ≡ map_refusal Fault.Core a → item_told Replies.Delivered told ≡ Some (reply_of_delivery a)
-tells_delivery a told is = grind arith
-
-pub tells_crash : (a : Result ℕ CoreFault) (told : Result ℕ LockedFault) → told ≡ map_refusal Fault.Core a → item_told Replies.Crashed told ≡ Some (reply_of_crash a)
-tells_crash a told is = grind arith
+pub tells : {A : Type 0} (ok : A → Reply) (reply : Result A CoreFault → Reply) → ((x : A) → reply (Ok x) ≡ ok x) → ((f : CoreFault) → reply (Err f) ≡ Replies.Refused f) → (a : Result A CoreFault) (told : Result A LockedFault) → told ≡ map_refusal Fault.Core a → item_told ok told ≡ Some (reply a)
+tells ok reply oks errs a told is = grind (arith, oks, errs)
 
 pub tells_flush : (a : Result ℕ FlushFault) (told : Result ℕ LockedFault) → told ≡ map_refusal Fault.Flush a → item_told Replies.Flushed told ≡ Some (reply_of_flush a)
 tells_flush a told is = grind arith
-
-pub tells_forget : (a : Result ℕ CoreFault) (told : Result ℕ LockedFault) → told ≡ map_refusal Fault.Core a → item_told Replies.Forgotten told ≡ Some (reply_of_forget a)
-tells_forget a told is = grind arith
 
 pub tells_restart : {B : Type 0} (a : Result Restarted (Refused B)) (told : Result Restarted (LockedRefused B)) → told ≡ map_refusal core_refusal a → again told ≡ Some (reply_of_restart refused_fault a)
 tells_restart a told is = grind arith

@@ -1,6 +1,10 @@
--- Prefixes of an extended run.
-use Rattle.std.proofs.Common.{◌≡◌, ◌≤◌, ◌+◌, ◌-◌, ◌∙◌, sym, refl, ap, ℕ, List, [], ◌∷◌, ◌++◌, length, take, drop, count_by, reverse, append-nil, append_assoc, arith}
-use Rattle.std.proofs.lemmas.List.{reverse-reverse, length-reverse}
+-- Lists, and prefixes of an extended run.
+use Rattle.std.proofs.Common.{◌≡◌, ◌<◌, ◌+◌, ◌-◌, ◌∙◌, ap, refl, reverse, count_by, cond, ℕ, Bool, List, [], ◌∷◌, ◌++◌, length, arith, Some, length-append, ◌⊎◌, ◌≤◌, sym, take, drop, append-nil, append_assoc}
+use Rattle.std.specs.Prelude.{slice_get}
+use Rattle.std.proofs.lemmas.Bool.{cases_lt}
+use Rattle.std.proofs.lemmas.Option.{slice_get-get_or, slice_get_cases, slice_get_past}
+use Rattle.std.proofs.lemmas.List.{reverse-append, get_or_append_left, get_or_push, length_push, reverse-reverse, length-reverse}
+use Rattle.std.proofs.lemmas.List.Sums.{sum_by-append}
 use Rattle.std.proofs.Math.Seq.{take-append-add, drop-append-add}
 use Rattle.causal_trace.specs.declared.entry.Entry.{Entry}
 use Rattle.causal_protocol.specs.declared.request.Request.{Request}
@@ -9,9 +13,40 @@ use Rattle.causal_name.specs.declared.Pid.{Pid}
 use Rattle.causal_protocol.specs.Run.{Run}
 use Rattle.causal_protocol.specs.Steps.{LegalStep, Steps, extend_run, append_all, writers_of}
 use Rattle.causal_shared.specs.History.{run_length, drop_newest, run_at, entries_since, IsCallStep}
-use Rattle.causal_shared.proofs.Lists.{reverse-cons, count_by-append, count_by-reverse}
 use Rattle.causal_protocol.proofs.Lemmas.StepAppends.{written-step, length-pushed}
 use Rattle.causal_protocol.specs.ReplyEntries.{is_stable_entry}
+
+-- appending leaves the earlier elements unchanged
+pub slice_get-append : {X : Type 0} (xs ys : List X) (k : ℕ) → k < length xs → slice_get (xs ++ ys) k ≡ slice_get xs k
+slice_get-append xs ys k lt = grind (arith, slice_get_cases xs k, slice_get-get_or (xs ++ ys) k, get_or_append_left xs ys, length-append xs ys)
+
+-- the appended element is at the old length
+pub slice_get-append_seam : {X : Type 0} (xs : List X) (x : X) → slice_get (xs ++ x ∷ []) (length xs) ≡ Some x
+slice_get-append_seam xs x = slice_get-get_or (xs ++ x ∷ []) (length xs) x (omega (arith, length_push xs x)) ∙ ap Some (get_or_push xs x x (length xs) refl)
+
+-- an index into a list with one appended element selects an old element or the new one
+pub slice_get-snoc : {X : Type 0} (xs : List X) (x y : X) (k : ℕ) → slice_get (xs ++ x ∷ []) k ≡ Some y → (slice_get xs k ≡ Some y) ⊎ ((k ≡ length xs) × (x ≡ y))
+slice_get-snoc xs x y k is =
+    let more = xs ++ x ∷ [] in
+    grind (arith, cases_lt k (length xs), slice_get-get_or more k x, slice_get-get_or xs k x, slice_get_past more k, length_push xs x, get_or_append_left xs (x ∷ []) x k, get_or_push xs x x k)
+
+-- the appended element is the last one
+pub slice_get-last : {X : Type 0} (xs : List X) (x : X) → slice_get (xs ++ x ∷ []) (length (xs ++ x ∷ []) - 1) ≡ Some x
+slice_get-last xs x = grind (arith, length-append xs (x ∷ []), slice_get-append_seam xs x)
+
+-- the first element is the last one of the reversed list
+pub reverse-cons : {X : Type 0} (x : X) (xs : List X) → reverse (x ∷ xs) ≡ reverse xs ++ x ∷ []
+reverse-cons x xs = reverse-append (x ∷ []) xs
+
+-- the count over two appended lists is the sum of both counts
+pub count_by-append : {X : Type 0} (p : X → Bool) (xs ys : List X) → count_by p (xs ++ ys) ≡ count_by p xs + count_by p ys
+count_by-append p xs ys = sum_by-append (λ x. cond (p x) 1 0) xs ys
+
+-- reversing a list does not change a count
+pub count_by-reverse : {X : Type 0} (p : X → Bool) (xs : List X) → count_by p (reverse xs) ≡ count_by p xs
+count_by-reverse p [] = refl
+count_by-reverse p (x ∷ xs) =
+    grind (arith, count_by-reverse p xs, count_by-append p (reverse xs) (x ∷ []), count_by-append p (x ∷ []) xs, reverse-cons x xs)
 
 pub pushed-is : (es past : List Entry) → append_all es past ≡ reverse es ++ past
 pushed-is [] past = refl

@@ -1,25 +1,48 @@
--- Appending one item preserves the facts on a history.
-use Rattle.std.proofs.Common.{◌≡◌, ◌≢◌, ◌≤◌, ◌<◌, ◌∙◌, sym, refl, ap, subst, ℕ, List, [], ◌∷◌, ◌++◌, length, slice_set, replicate, arith, Some, None, length-append, inl, inr}
-use Rattle.std.specs.Prelude.{slice_get, Option, option_map, unwrap_or}
+-- A delivery in a trace stays there as the trace grows, and appending one item preserves the facts on a history.
+use Rattle.std.proofs.Common.{◌≡◌, ◌<◌, ◌∙◌, sym, ℕ, List, [], ◌∷◌, length, arith, Some, ◌≢◌, ◌≤◌, refl, ap, subst, ◌++◌, slice_set, replicate, None, length-append, inl, inr}
+use Rattle.std.specs.Prelude.{Result, Ok, Err, IfOk, slice_get, Option, option_map, unwrap_or}
+use Rattle.causal_name.specs.declared.Det.{Det}
+use Rattle.causal_trace.specs.declared.entry.Entry.{Entry}
+use Rattle.causal_trace.specs.Past.{det_at}
+use Rattle.causal_name.specs.declared.Pid.{Pid}
+use Rattle.causal_protocol.specs.declared.request.Request.TheVariants as Requests
+use Rattle.causal_protocol.specs.declared.request.Reply.TheVariants as Replies
+use Rattle.causal_protocol.specs.declared.request.Delivered.{Delivered}
+use Rattle.causal_protocol.specs.declared.request.CoreFault.{CoreFault}
+use Rattle.causal_protocol.specs.Run.{Run}
+use Rattle.causal_protocol.specs.Steps.{append_all, LegalStep, Steps, reply_of_delivery}
+use Rattle.causal_shared.specs.declared.item.Item.{Item}
+use Rattle.causal_shared.specs.History.{run_length, HasDeliveryOf, IsCallStep, next_first, AllLegal, items_of, last_item, IsHistory, record_after, item_count, new_record, LockedState, Holds, UpdatesSeen}
+use Rattle.causal_trace.proofs.Lemmas.Instants.{det_more}
 use Rattle.std.proofs.lemmas.Option.{slice_get_cases, gets}
 use Rattle.std.proofs.lemmas.List.Sums.{length-filter, count_by-le-length}
 use Rattle.std.proofs.lemmas.List.{append-nil, get_or-replicate, length-replicate}
 use Rattle.std.proofs.lemmas.Bool.{cases_eq}
 use Rattle.std.proofs.lemmas.List.Elements.{filter-append}
 use Rattle.std.proofs.lemmas.Bool.Decides.{nat_tests}
-use Rattle.causal_protocol.specs.Run.{Run}
-use Rattle.causal_protocol.specs.Steps.{Steps}
-use Rattle.causal_shared.specs.declared.item.Item.{Item}
 use Rattle.causal_shared.specs.declared.item.SeatRecord.{SeatRecord}
 use Rattle.causal_shared.specs.Limits.{max_items}
-use Rattle.causal_shared.specs.History.{run_length, IsCallStep, next_first, AllLegal, items_of, last_item, IsHistory, HasDeliveryOf, record_after, item_count, new_record, LockedState, Holds, UpdatesSeen}
 use Rattle.causal_shared.specs.LockInvariant.{item_at, FitsHistory, AllRecordsFit, LockInvariant}
 use Rattle.causal_core.proofs.Lemmas.Slices.{slice_get-set_same, slice_get-set_other}
-use Rattle.causal_shared.proofs.Lists.{slice_get-append, slice_get-append_seam, slice_get-snoc, slice_get-last}
+use Rattle.causal_shared.proofs.Cuts.{slice_get-append, slice_get-append_seam, slice_get-snoc, slice_get-last, Longer, Longer-step, cut-whole, IsStep-step}
 use Rattle.causal_protocol.specs.declared.request.Request.{Request}
 use Rattle.causal_protocol.specs.declared.request.Reply.{Reply}
-use Rattle.causal_shared.proofs.Shown.{det_at-pushed}
-use Rattle.causal_shared.proofs.Cuts.{Longer, Longer-step, cut-whole, IsStep-step}
+
+det_at-below : (past : List Entry) (k : ℕ) (d : Det) → det_at past k ≡ Some d → k < length past
+det_at-below [] k d is = absurd cc
+det_at-below (e ∷ past) k d is = grind (arith, det_at-below past k d)
+
+-- a determinant at a position stays at that position as entries are added
+pub det_at-pushed : (es past : List Entry) (k : ℕ) (d : Det) → det_at past k ≡ Some d → det_at (append_all es past) k ≡ Some d
+det_at-pushed [] past k d is = is
+det_at-pushed (e ∷ es) past k d is = det_at-pushed es (e ∷ past) k d (det_more e past k (det_at-below past k d is) ∙ is)
+
+-- the trace contains the delivery of a delivery's item
+pub shows_delivery : (old new : Run) (q source : Pid) (ssn : ℕ) (answer : Result Delivered CoreFault) (item : Item) → Steps old (Requests.Deliver q source ssn) (reply_of_delivery answer) new
+    → IfOk answer (λ d. det_at new.recording.past d.first ≡ Some d.det) → item.reply ≡ reply_of_delivery answer → item.first ≡ run_length old → HasDeliveryOf new.recording.past item
+unfolding LegalStep
+shows_delivery old new q source ssn (Ok told) item step det is first d reply = grind arith
+shows_delivery old new q source ssn (Err fault) item step det is first d reply = absurd (let x : Replies.Refused fault ≡ Replies.Delivered d = sym is ∙ reply in cc)
 
 -- no item begins after the end of the run
 pub next_first-le : (r : Run) (items : List Item) → AllLegal r items → next_first r items ≤ run_length r

@@ -1,12 +1,7 @@
-mod OkAnswers
-mod Lists
 mod Cuts
-mod Shown
 mod Histories
 mod Answered
 mod Seats
-mod Parts
 mod Totals
 mod Openings
 mod Ascents
-mod Mismatches

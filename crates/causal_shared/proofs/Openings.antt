@@ -1,16 +1,41 @@
--- The recording before the first item.
-use Rattle.std.proofs.Common.{◌≡◌, ◌≤◌, ◌-◌, ◌∙◌, sym, refl, ap, ℕ, List, [], ◌∷◌, length, take, drop, reverse, length-drop, take-append-drop, arith}
+-- The opening of a history, and a list compared, element by element, with the items of a seat.
+use Rattle.std.proofs.Common.{◌≡◌, ◌≤◌, ◌<◌, ◌+◌, refl, ℕ, suc, true, List, [], ◌∷◌, length, take, ◌-◌, drop, get_or, drop-cons, add-one, arith, ◌∙◌, sym, ap, reverse, length-drop, take-append-drop}
+use Rattle.std.specs.Prelude.{◌==◌}
+use Rattle.std.proofs.lemmas.Bool.Decides.{nat_tests}
+use Rattle.std.proofs.Math.Seq.{take-length, take-append_seam}
+use Rattle.causal_shared.specs.declared.item.Item.{Item}
+use Rattle.causal_shared.specs.History.{items_of, run_length, run_at, next_first, AllLegal}
 use Rattle.std.proofs.lemmas.List.{reverse-reverse, reverse-append, length-reverse}
-use Rattle.std.proofs.Math.Seq.{take-append_seam}
 use Rattle.causal_trace.specs.Rows.{Recording}
 use Rattle.causal_protocol.specs.Run.{Run}
-use Rattle.causal_shared.specs.declared.item.Item.{Item}
-use Rattle.causal_shared.specs.History.{run_length, run_at, next_first, AllLegal}
 use Rattle.causal_shared.specs.Shared.{Opening, opening_from}
 use Rattle.causal_shared.specs.Finish.{before_items}
 use Rattle.causal_shared.specs.Inside.FinishChecks.{entries_before}
 use Rattle.causal_shared.proofs.Cuts.{cut-whole}
 use Rattle.causal_shared.proofs.Histories.{next_first-le}
+
+-- two lists are equal if and only if their remaining parts are
+pub record Follows {X : Type 0} (xs ys left_xs left_ys : List X) : Type 0 where
+  -- if the remaining parts are equal, so are the lists
+  pub whole : left_xs ≡ left_ys → xs ≡ ys
+  -- if the lists are equal, so are the remaining parts
+  pub left : xs ≡ ys → left_xs ≡ left_ys
+
+-- one more equal element preserves `Follows`
+pub Follows-next : {X : Type 0} (xs ys left_xs left_ys : List X) (x : X) (more_xs more_ys : List X) → left_xs ≡ x ∷ more_xs → left_ys ≡ x ∷ more_ys → Follows xs ys left_xs left_ys → Follows xs ys more_xs more_ys
+Follows-next xs ys left_xs left_ys x more_xs more_ys is_xs is_ys follows = grind arith
+
+pub items_of-cons_mine : (seat : ℕ) (item : Item) (items : List Item) → item.seat ≡ seat → items_of seat (item ∷ items) ≡ item ∷ items_of seat items
+items_of-cons_mine seat item items same = let b : (item.seat == seat) ≡ true = grind (arith, nat_tests) in rw b refl
+
+-- if the next history item belongs to the seat, it is the seat's next item
+pub items_of_drop_mine : (seat : ℕ) (items : List Item) (i : ℕ) (d : Item) → i < length items → (get_or items i d).seat ≡ seat → items_of seat (drop i items) ≡ get_or items i d ∷ items_of seat (drop (i + 1) items)
+items_of_drop_mine seat items i d lt same = rw (add-one, drop-cons items i d lt) (items_of-cons_mine seat (get_or items i d) (drop (suc i) items) same)
+
+-- a nonempty list is its first element and the rest that a slice pattern binds
+pub head_rest : {X : Type 0} (rest : List X) (d x : X) → 1 ≤ length rest → get_or rest 0 d ≡ x → rest ≡ x ∷ take (length rest - 1) (drop 1 rest)
+head_rest [] d x le is = absurd (omega arith)
+head_rest (y ∷ ys) d x le is = grind (arith, take-length ys)
 
 -- the first n elements of a reversed list
 take-reverse : {X : Type 0} (xs : List X) (n : ℕ) → n ≤ length xs → take n (reverse xs) ≡ reverse (drop (length xs - n) xs)

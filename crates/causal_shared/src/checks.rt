@@ -3,8 +3,7 @@ ghost use Rattle.std.specs.Prelude.{◌≡◌, ◌≢◌, ◌<◌, ◌↔◌, Al
 ghost use Rattle.causal_shared.specs.History.{items_of, AllLegal};
 ghost use Rattle.causal_core.specs.CoreView.{core_run};
 ghost use Rattle.causal_shared.specs.Finish.{HasSeatHistory, AreAllSeats, IsOwnOf, HasSeat, AllHaveSeats};
-ghost use Rattle.causal_shared.specs.Inside.FinishChecks.{IsLeastMismatch};
-ghost use Rattle.causal_shared.specs.Inside.FinishChecks.{HasOpening, entries_before};
+ghost use Rattle.causal_shared.specs.Inside.FinishChecks.{IsLeastMismatch, HasOpening, entries_before};
 
 use crate::item::Item;
 use crate::same::{same_entry, same_item};

@@ -1,8 +1,7 @@
 //! The value under the lock.
 #![tactic(auto, using(crate::proofs::Histories::count_below))]
 
-ghost use Rattle.std.specs.Prelude.{◌≡◌, ◌+◌, ◌<◌, ◌≤◌, ◌↔◌, [], ◌∷◌, ◌++◌, length, replicate, slice_get};
-ghost use Rattle.std.specs.Prelude.{vec_len, vec_capacity, IfOk, IfErr, OnOk, OnErr, IsTrue, None};
+ghost use Rattle.std.specs.Prelude.{◌≡◌, ◌+◌, ◌<◌, ◌≤◌, ◌↔◌, [], ◌∷◌, ◌++◌, length, replicate, slice_get, vec_len, vec_capacity, IfOk, IfErr, OnOk, OnErr, IsTrue, None};
 ghost use Rattle.std.specs.Option.{option_copied};
 ghost use Rattle.causal_core.specs.CoreView.{core_run};
 ghost use Rattle.causal_shared.specs.History.{IsHistory, Holds, UpdatesSeen, new_record, run_length, history_item, with_record};
@@ -157,8 +156,7 @@ fn restart_reply(answer: &Result<Restarted, Refused>) -> Reply
 }
 
 impl<S: Stable> Locked<S> {
-    ghost use Rattle.causal_shared.specs.Locked.{locked_state, core_state_of, core_store_of, new_locked_state, restart_item_reply};
-    ghost use Rattle.causal_shared.specs.Locked.{IsNextCall, IsRecordedCall, IsRecordedResult, AnswersAs, LeavesCore, LockedFaultMeansFailure, IsSnapshot, IsSafeSnapshot};
+    ghost use Rattle.causal_shared.specs.Locked.{locked_state, core_state_of, core_store_of, new_locked_state, restart_item_reply, IsNextCall, IsRecordedCall, IsRecordedResult, AnswersAs, LeavesCore, LockedFaultMeansFailure, IsSnapshot, IsSafeSnapshot};
     ghost use Rattle.causal_core.specs.CoreView.{core_state, Delivers, Crashes};
     ghost use Rattle.causal_core.specs.Boxes.{SameAnswers};
     ghost use Rattle.causal_core.specs.Restarts.{Restarts};

@@ -1,8 +1,7 @@
 //! A caller's seat, with its own list of its calls.
 #![tactic(auto, using(crate::proofs::Seats::seat_calls, crate::proofs::Ascents::pending_ascends))]
 
-ghost use Rattle.std.specs.Prelude.{◌≡◌, ◌↔◌, ◌≤◌, ◌<◌, length, ◌-◌, vec_len};
-ghost use Rattle.std.specs.Prelude.{IfOk, IfErr, OnOk, OnErr, IsTrue, Option, Some, None};
+ghost use Rattle.std.specs.Prelude.{◌≡◌, ◌↔◌, ◌≤◌, ◌<◌, length, ◌-◌, vec_len, IfOk, IfErr, OnOk, OnErr, IsTrue, Option, Some, None};
 ghost use Rattle.std.specs.Option.{option_copied};
 ghost use Rattle.causal_protocol.specs.declared.request.Request.TheVariants as Requests;
 ghost use Rattle.causal_protocol.specs.declared.request.Reply.TheVariants as Replies;
@@ -15,11 +14,9 @@ ghost use Rattle.causal_protocol.specs.Run.{memories_of};
 ghost use Rattle.causal_shared.specs.Inside.Sections.{RecordsReply, LockSections};
 ghost use Rattle.causal_shared.specs.Locked.{locked_state, AnswersAs, IsSnapshot, IsSafeSnapshot};
 ghost use Rattle.causal_shared.specs.Pending.{AreAscending, IsPendingFault, IsSnapshotFault};
-ghost use Rattle.causal_shared.specs.Seat.{seat_reply, seat_fault_reply, seat_restart_reply, with_item};
-ghost use Rattle.causal_shared.specs.Inside.SeatChecks.{refusal_of};
+ghost use Rattle.causal_shared.specs.Seat.{seat_reply, seat_fault_reply, seat_restart_reply, with_item, SnapshotSeen};
+ghost use Rattle.causal_shared.specs.Inside.SeatChecks.{refusal_of, MatchesRecord, CanCall, HistoryFullIsTrue, NoRecordIsTrue, WrongSeatIsTrue};
 ghost use Rattle.causal_shared.specs.Inside.CountingCalls.{reply_of, request_of};
-ghost use Rattle.causal_shared.specs.Seat.{SnapshotSeen};
-ghost use Rattle.causal_shared.specs.Inside.SeatChecks.{MatchesRecord, CanCall, HistoryFullIsTrue, NoRecordIsTrue, WrongSeatIsTrue};
 
 use crate::counting_call::CountingCall;
 use crate::fault::SharedFault;

@@ -1,8 +1,7 @@
 //! The core that several threads share.
-#![tactic(auto, using(crate::proofs::Seats::seat_called, crate::proofs::OkAnswers::holds))]
+#![tactic(auto, using(crate::proofs::Seats::seat_called, crate::proofs::Answered::holds))]
 
-ghost use Rattle.std.specs.Prelude.{◌≡◌, ◌↔◌, ◌≤◌, ◌<◌, ℕ, length, All, vec_len};
-ghost use Rattle.std.specs.Prelude.{IfOk, IfErr, IsErrAnd, IfNone, OnErr, Ok, Err, Some};
+ghost use Rattle.std.specs.Prelude.{◌≡◌, ◌↔◌, ◌≤◌, ◌<◌, ℕ, length, All, vec_len, IfOk, IfErr, IsErrAnd, IfNone, OnErr, Ok, Err, Some};
 ghost use Rattle.causal_core.specs.CoreView.{core_run};
 ghost use Rattle.causal_protocol.specs.Runs.{IsSafeRun, HasSingleSlots};
 ghost use Rattle.causal_protocol.specs.declared.request.Request.TheVariants as Requests;
@@ -10,10 +9,8 @@ ghost use Rattle.causal_protocol.specs.declared.request.Reply.TheVariants as Rep
 ghost use Rattle.causal_shared.specs.History.{run_length, IsHistory};
 ghost use Rattle.causal_shared.specs.Limits.{max_seats};
 ghost use Rattle.causal_shared.specs.Locked.{locked_state, new_locked_state, AnswersAs, IsSafeSnapshot};
-ghost use Rattle.causal_shared.specs.Finish.{HasSeatHistory, AreAllSeats, IsNoneOrSeat, AllHaveSeats, AreSeatsOf};
-ghost use Rattle.causal_shared.specs.Inside.FinishChecks.{IsMismatch, HasOpening};
-ghost use Rattle.causal_shared.specs.Finish.{items_together, before_items};
-ghost use Rattle.causal_shared.specs.Inside.FinishChecks.{HasOtherOpening, CanFinish};
+ghost use Rattle.causal_shared.specs.Finish.{HasSeatHistory, AreAllSeats, IsNoneOrSeat, AllHaveSeats, AreSeatsOf, items_together, before_items};
+ghost use Rattle.causal_shared.specs.Inside.FinishChecks.{IsMismatch, HasOpening, HasOtherOpening, CanFinish};
 ghost use Rattle.causal_shared.specs.Pending.{AreAscending, IsPendingFault, IsSnapshotFault};
 ghost use Rattle.causal_shared.specs.Seat.{AreNewSeats, SeatAnswers, SeatCall, SnapshotSeen, RefusesForeignSeat, seat_restart_reply};
 ghost use Rattle.causal_shared.specs.Shared.{opening_of, tag_of, seats_of_shared};
@@ -326,7 +323,7 @@ fn finish_fault<S: Stable>(
 }
 
 /// Performs `finish` on the value taken out of the lock.
-#[tactic(auto, using(crate::proofs::Mismatches::finished))]
+#[tactic(auto, using(crate::proofs::Totals::finished))]
 pub(crate) fn finish_core<S: Stable>(
     locked: Locked<S>,
     seats: &[Seat],

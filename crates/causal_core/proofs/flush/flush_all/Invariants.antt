@@ -4,8 +4,7 @@ use Rattle.std.specs.List.{list_all}
 use Rattle.causal_protocol.specs.Memory.{present_at}
 use Rattle.causal_protocol.specs.Run.{memories_of}
 use Rattle.causal_core.specs.Inside.Memories.{log_at}
-use Rattle.causal_core.specs.Inside.Stables.{IsStored}
-use Rattle.causal_core.specs.Inside.Stables.{run_after_flush}
+use Rattle.causal_core.specs.Inside.Stables.{IsStored, run_after_flush}
 use Rattle.causal_core.proofs.flush.flush_all.Given as goal
 
 abbrev pub invariant-loop-det : goal.invariant-loop-det

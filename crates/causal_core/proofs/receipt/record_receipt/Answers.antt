@@ -3,7 +3,7 @@ use Rattle.causal_name.specs.Names.{message_of}
 use Rattle.causal_protocol.specs.Memory.{log_after_delivery}
 use Rattle.causal_memory.specs.ProcessMemories.{memory_of}
 use Rattle.causal_core.proofs.MemoriesFit.{fits_other}
-use Rattle.causal_core.proofs.RuntimeDelivery.{received_fits}
+use Rattle.causal_core.proofs.LegalDelivery.{received_fits}
 use Rattle.causal_core.proofs.receipt.record_receipt.Goals as goal
 
 pub returns-clause-fit : goal.returns-clause-fit

@@ -1,7 +1,7 @@
 use Rattle.std.proofs.Common.{◌∙◌}
 use Rattle.causal_core.specs.CoreView.{core_run}
 use Rattle.causal_protocol.proofs.Lemmas.KeptByType.{invariant_safe}
-use Rattle.causal_shared.proofs.Mismatches.{found}
+use Rattle.causal_shared.proofs.Totals.{found}
 use Rattle.causal_shared.proofs.shared.finish_core.Goals as goal
 
 pub returns-in-Some-clause-mismatch : goal.returns-in-Some-clause-mismatch

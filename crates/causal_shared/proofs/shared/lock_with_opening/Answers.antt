@@ -2,7 +2,7 @@ use Rattle.std.proofs.Common.{◌≡◌, ◌∙◌, ap, sym}
 use Rattle.causal_shared.specs.History.{LockedState}
 use Rattle.causal_core.specs.CoreView.{core_run}
 use Rattle.causal_shared.specs.Locked.{locked_state, new_locked_state}
-use Rattle.causal_shared.proofs.OkAnswers.{holds, both_hold}
+use Rattle.causal_shared.proofs.Answered.{holds, both_hold}
 use Rattle.causal_shared.proofs.shared.lock_with_opening.Goals as goal
 
 pub returns-clause-locked : goal.returns-clause-locked

@@ -8,6 +8,9 @@ use Rattle.causal_core.proofs.flush.Core+S.flush.Goals as goal
 pub flush_all-requires-clause-process : goal.flush_all-requires-clause-process
 flush_all-requires-clause-process g c = grind (arith, flush_may c.args.self.now.run_data.run c.args.p c.in-Ok.ensures.legal)
 
+pub flush_all-requires-clause-up : goal.flush_all-requires-clause-up
+flush_all-requires-clause-up g c = grind (arith, flush_may c.args.self.now.run_data.run c.args.p c.in-Ok.ensures.legal)
+
 pub flush_all-requires-clause-logged : goal.flush_all-requires-clause-logged
 flush_all-requires-clause-logged g c = grind (arith, unwritten_logged c.args.self.now.run_data.run c.args.p)
 

@@ -1,4 +1,4 @@
-use Rattle.std.proofs.Common.{◌∙◌, refl, ap, sym, subst, arith, length, is_some, true, slice_set}
+use Rattle.std.proofs.Common.{◌∙◌, [], refl, ap, sym, subst, arith, length, is_some, true, slice_set}
 use Rattle.std.proofs.lemmas.Grind.{common_steps}
 use Rattle.std.proofs.lemmas.List.{length-map}
 use Rattle.causal_protocol.specs.declared.request.Request.TheVariants as Requests
@@ -6,16 +6,16 @@ use Rattle.causal_protocol.specs.declared.request.Reply.TheVariants as Replies
 use Rattle.causal_protocol.specs.Run.{memories_of}
 use Rattle.causal_protocol.specs.Refusals.{restart_list}
 use Rattle.causal_protocol.specs.Runs.{SatisfiesInvariant}
+use Rattle.causal_protocol.specs.Steps.{LegalStep}
 use Rattle.causal_protocol.proofs.Lemmas.KeptByType.{step_preserves}
 use Rattle.causal_core.specs.View.{receivers}
-use Rattle.causal_core.proofs.UpAfterStep.{memories_count}
-use Rattle.causal_core.proofs.RefusedRequests.{refused_restart}
-use Rattle.causal_core.proofs.RestartMemory.{restarted_alone}
+use Rattle.causal_core.proofs.RunAfterStep.{memories_count, restarted_alone}
 use Rattle.causal_core.proofs.RuntimeRestart.{restart_below, restart_filled, restart_stable}
 use Rattle.causal_core.proofs.restart.Core+S.restart.Goals as goal
 
 pub returns-in-Err-clause-step : goal.returns-in-Err-clause-step
-returns-in-Err-clause-step g c = grind (arith, refused_restart)
+unfolding LegalStep
+returns-in-Err-clause-step g c = record { appended = []; grown = c.prepare_restart.ensures.run; legal = (c.in-Err.ensures.refused, refl) }
 
 pub put_box-requires : goal.put_box-requires
 put_box-requires g c =
@@ -48,4 +48,5 @@ pub returns-in-Ok-begin_box-clause-ok : goal.returns-in-Ok-begin_box-clause-ok
 returns-in-Ok-begin_box-clause-ok g c = grind arith
 
 pub returns-in-Err-begin_box-clause-step : goal.returns-in-Err-begin_box-clause-step
-returns-in-Err-begin_box-clause-step g c = grind (arith, refused_restart)
+unfolding LegalStep
+returns-in-Err-begin_box-clause-step g c = record { appended = []; grown = c.prepare_restart.ensures.run; legal = (c.in-Ok.ensures.legal, refl) }

@@ -8,7 +8,7 @@ use Rattle.causal_protocol.specs.Refusals.{request_fault}
 use Rattle.causal_core.specs.View.{run_from}
 use Rattle.causal_core.specs.Inside.Memories.{memories_in}
 use Rattle.std.proofs.lemmas.List.{length-map}
-use Rattle.causal_core.proofs.Legal.{held_fit, crash_legal, crash_held}
+use Rattle.causal_core.proofs.MemoriesFit.{held_fit, crash_legal, crash_held}
 use Rattle.causal_core.proofs.run_data.RunData.crash.Goals as goal
 use Rattle.causal_core.proofs.run_data.RunData.crash.Goals.{After-len-first}
 

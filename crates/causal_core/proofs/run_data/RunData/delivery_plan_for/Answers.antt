@@ -12,7 +12,7 @@ use Rattle.causal_core.specs.View.{run_from}
 use Rattle.causal_core.specs.Inside.Memories.{memories_in}
 use Rattle.causal_memory.specs.ProcessMemories.{memory_of}
 use Rattle.causal_memory.specs.Outboxes.{kept_message_of}
-use Rattle.causal_core.proofs.DeliveryRows.{received_few}
+use Rattle.causal_core.proofs.Cells.{received_few}
 use Rattle.causal_core.proofs.LegalDelivery.{allowed}
 use Rattle.causal_core.proofs.run_data.RunData.delivery_plan_for.Goals as goal
 use Rattle.causal_core.proofs.run_data.RunData.delivery_plan_for.Goals.{After-as_slice-process_memories, In-Some-process_memory_at}

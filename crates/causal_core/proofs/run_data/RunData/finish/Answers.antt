@@ -5,8 +5,7 @@ use Rattle.causal_protocol.specs.Run.{Run}
 use Rattle.causal_protocol.specs.Refusals.{request_fault}
 use Rattle.causal_core.specs.View.{with_delivery, run_from}
 use Rattle.causal_core.specs.Inside.Memories.{memories_in}
-use Rattle.causal_core.proofs.LegalDelivery.{MayDeliver, may_deliver}
-use Rattle.causal_core.proofs.DeliveryMemories.{same_memories}
+use Rattle.causal_core.proofs.LegalDelivery.{MayDeliver, may_deliver, sent_name, same_memories, det_at-pushed, det_at-newest}
 use Rattle.causal_core.proofs.run_data.RunData.finish.Goals as goal
 use Rattle.causal_core.proofs.run_data.RunData.finish.Goals.{After-len-first}
 
@@ -21,6 +20,11 @@ may c =
 -- the run after the delivery
 new_run : (c : goal.After-record_delivery_at-sends) → run_from c.record_delivery_at-sends.new.trace.recording c.self.inside.faults c.self.inside.writers.items ≡ with_delivery (run_from c.self.inside.trace.recording c.self.inside.faults c.self.inside.writers.items) c.args.q (message_of c.args.grown.own) c.args.sends.items
 new_run c = grind arith
+
+pub returns-clause-det : goal.returns-clause-det
+returns-clause-det c =
+    let at = (goal.at.returns-clause-det c).After-len-first in
+    grind (arith, det_at-pushed, det_at-newest, sent_name (run at) c.args.q c.args.grown.own.source c.args.grown.own.ssn (may at), c.len-first.ensures.length)
 
 pub invariant_of-self : goal.invariant_of-self
 invariant_of-self c =

@@ -12,7 +12,7 @@ use Rattle.causal_memory.specs.ProcessMemories.{memory_of}
 use Rattle.causal_memory.specs.RestartPlans.{IsRestartPlan}
 use Rattle.causal_core.specs.Inside.Memories.{memories_in}
 use Rattle.causal_core.proofs.MemoriesFit.{delivered_more, fits_other, all_fit_set}
-use Rattle.causal_core.proofs.RuntimeDelivery.{chosen_all}
+use Rattle.causal_core.proofs.LegalDelivery.{chosen_all}
 use Rattle.causal_core.specs.Inside.MemoryInvariant.{MatchesEntriesAt, AllMatchEntries}
 use Rattle.causal_core.proofs.RuntimeRestart.{MayRestart, may_restart, restart_memories, restart_fits}
 use Rattle.causal_core.proofs.run_data.RunData.finish_restart.Goals as goal

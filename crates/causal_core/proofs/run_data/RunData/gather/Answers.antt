@@ -4,7 +4,7 @@ use Rattle.causal_log.specs.Stores.{dets_in}
 use Rattle.causal_protocol.specs.Run.{memories_of, stable_of}
 use Rattle.causal_core.specs.Inside.Memories.{memories_in}
 use Rattle.causal_core.specs.Inside.Gathers.{gathered_log_of}
-use Rattle.causal_core.proofs.StoreEntries.{store_is}
+use Rattle.causal_core.proofs.RunAfterStep.{store_is}
 use Rattle.causal_core.proofs.run_data.RunData.gather.Goals as goal
 
 pub returns : goal.returns

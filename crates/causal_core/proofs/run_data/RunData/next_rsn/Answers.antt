@@ -5,7 +5,7 @@ use Rattle.causal_trace.proofs.Lemmas.WellFormed.{formed_short}
 use Rattle.causal_protocol.specs.Memory.{present_at}
 use Rattle.causal_core.specs.Inside.Memories.{memories_in}
 use Rattle.causal_memory.specs.ProcessMemories.{memory_of}
-use Rattle.causal_core.proofs.DeliveryRows.{received_few}
+use Rattle.causal_core.proofs.Cells.{received_few}
 use Rattle.causal_core.proofs.run_data.RunData.next_rsn.Goals as goal
 
 pub overflow_cast-result : goal.overflow_cast-result

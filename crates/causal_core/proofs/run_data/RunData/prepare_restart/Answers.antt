@@ -1,6 +1,6 @@
 use Rattle.std.proofs.Common.{◌∙◌, sym}
 use Rattle.causal_protocol.specs.declared.request.Request.TheVariants as Requests
-use Rattle.causal_core.proofs.Legal.{tells_reason}
+use Rattle.causal_core.proofs.MemoriesFit.{tells_reason}
 use Rattle.causal_core.proofs.RuntimeRestart.{none_listed}
 use Rattle.causal_core.proofs.run_data.RunData.prepare_restart.Goals as goal
 

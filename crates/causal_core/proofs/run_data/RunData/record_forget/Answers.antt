@@ -3,7 +3,7 @@ use Rattle.causal_protocol.specs.declared.request.Request.TheVariants as Request
 use Rattle.causal_protocol.specs.Refusals.{request_fault, dets_to_forget}
 use Rattle.causal_core.specs.View.{run_from}
 use Rattle.causal_core.specs.Inside.Memories.{memories_in}
-use Rattle.causal_core.proofs.Legal.{held_fit}
+use Rattle.causal_core.proofs.MemoriesFit.{held_fit}
 use Rattle.causal_core.proofs.Forgotten.{forgotten_held, forget_legal}
 use Rattle.causal_core.proofs.run_data.RunData.record_forget.Goals as goal
 

@@ -5,8 +5,8 @@ use Rattle.causal_protocol.specs.Memory.{present_at}
 use Rattle.causal_protocol.specs.Run.{memories_of}
 use Rattle.causal_core.specs.View.{run_from}
 use Rattle.causal_core.specs.Inside.Memories.{memories_in, log_at}
-use Rattle.causal_core.proofs.Legal.{held_fit}
-use Rattle.causal_core.proofs.FlushWrites.{stable_may, stable_held}
+use Rattle.causal_core.proofs.MemoriesFit.{held_fit}
+use Rattle.causal_core.proofs.FlushSteps.{stable_may, stable_held}
 use Rattle.causal_core.proofs.run_data.RunData.record_stable.Goals as goal
 
 pub invariant_of-self : goal.invariant_of-self

@@ -1,6 +1,6 @@
 use Rattle.std.proofs.Common.{arith}
 use Rattle.causal_trace.proofs.Lemmas.WellFormed.{formed_short}
-use Rattle.causal_core.proofs.StoreEntries.{store_is}
+use Rattle.causal_core.proofs.RunAfterStep.{store_is}
 use Rattle.causal_core.proofs.RuntimeRestart.{few_stable, restart_lists}
 use Rattle.causal_core.proofs.run_data.RunData.restart_fault.Goals as goal
 

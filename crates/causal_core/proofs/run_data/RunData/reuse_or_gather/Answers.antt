@@ -1,5 +1,5 @@
 use Rattle.std.proofs.Common.{arith, ◌∙◌}
-use Rattle.causal_core.proofs.RestartMemory.{gathered_down, remembered_anew}
+use Rattle.causal_core.proofs.RunAfterStep.{gathered_down, remembered_anew}
 use Rattle.causal_core.proofs.run_data.RunData.reuse_or_gather.Goals as goal
 
 pub returns-in-Some-clause-log : goal.returns-in-Some-clause-log

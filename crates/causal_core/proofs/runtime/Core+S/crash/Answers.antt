@@ -1,9 +1,7 @@
 use Rattle.std.proofs.Common.{arith}
 use Rattle.std.proofs.lemmas.Grind.{common_steps}
 use Rattle.causal_protocol.proofs.Lemmas.KeptByType.{step_preserves}
-use Rattle.causal_core.proofs.UpAfterStep.{memories_count}
-use Rattle.causal_core.proofs.RestartMemory.{crash_alone}
-use Rattle.causal_core.proofs.RunAfterStep.{crash_refused, crash_below, crash_filled, crash_stable}
+use Rattle.causal_core.proofs.RunAfterStep.{memories_count, crash_alone, crash_refused, crash_below, crash_filled, crash_stable}
 use Rattle.causal_core.proofs.runtime.Core+S.crash.Goals as goal
 
 pub invariant_of-self : goal.invariant_of-self

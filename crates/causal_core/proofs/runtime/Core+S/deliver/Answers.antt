@@ -1,4 +1,4 @@
-use Rattle.std.proofs.Common.{arith, ◌≡◌, ◌∙◌, ap, sym, subst}
+use Rattle.std.proofs.Common.{arith, ◌≡◌, ◌∙◌, [], ap, refl, sym, subst}
 use Rattle.causal_name.specs.Names.{message_of}
 use Rattle.causal_log.specs.Slots.{first_of_slot}
 use Rattle.causal_log.specs.Stores.{dets_in}
@@ -7,14 +7,11 @@ use Rattle.causal_protocol.specs.Runs.{SatisfiesInvariant}
 use Rattle.causal_protocol.specs.declared.request.Reply.TheVariants as Replies
 use Rattle.causal_protocol.proofs.Lemmas.KeptByType.{step_preserves}
 use Rattle.causal_protocol.specs.Naming.{next_ssn}
+use Rattle.causal_protocol.specs.Steps.{LegalStep}
 use Rattle.causal_protocol.specs.declared.request.Request.TheVariants as Requests
 use Rattle.causal_core.specs.View.{RunDataState, receivers}
-use Rattle.causal_core.proofs.StoreEntries.{store_is}
-use Rattle.causal_core.proofs.UpAfterStep.{box_there}
-use Rattle.causal_core.proofs.RefusedRequests.{refused_delivery}
+use Rattle.causal_core.proofs.RunAfterStep.{store_is, box_there, delivery_alone, delivery_filled, delivery_stable}
 use Rattle.causal_core.proofs.LegalDelivery.{allowed}
-use Rattle.causal_core.proofs.RestartMemory.{delivery_alone}
-use Rattle.causal_core.proofs.RunAfterStep.{delivery_filled, delivery_stable}
 use Rattle.causal_core.proofs.runtime.Core+S.deliver.Goals as goal
 
 pub prepare-requires : goal.prepare-requires
@@ -23,7 +20,8 @@ prepare-requires g c =
     ∙ (λ i. first_of_slot c.args.q (c.next_rsn-rsn.ensures i) (dets_in (store_is _ c.args.self.now.run_data.run.recording.past c.args.self.now.stored i)))
 
 pub returns-in-Err-clause-step : goal.returns-in-Err-clause-step
-returns-in-Err-clause-step g c = grind (arith, refused_delivery)
+unfolding LegalStep
+returns-in-Err-clause-step g c = record { appended = []; grown = c.prepare.ensures.run; legal = (c.in-Err.ensures.refused, refl) }
 
 pub step_with_message-requires-clause-box_there : goal.step_with_message-requires-clause-box_there
 step_with_message-requires-clause-box_there g c =
@@ -48,4 +46,9 @@ pub returns-in-Ok-step_with_message-clause-ok : goal.returns-in-Ok-step_with_mes
 returns-in-Ok-step_with_message-clause-ok g c = grind arith
 
 pub returns-in-Err-step_with_message-clause-step : goal.returns-in-Err-step_with_message-clause-step
-returns-in-Err-step_with_message-clause-step g c = grind (arith, refused_delivery)
+unfolding LegalStep
+returns-in-Err-step_with_message-clause-step g c = record {
+  appended = [];
+  grown = ap (λ (s : RunDataState). s.run) c.step_with_message.ensures.data ∙ c.prepare.ensures.run;
+  legal = (c.in-Ok.ensures.legal, refl);
+}

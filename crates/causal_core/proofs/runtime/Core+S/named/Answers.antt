@@ -1,7 +1,7 @@
 use Rattle.std.proofs.Common.{◌∙◌}
 use Rattle.causal_log.specs.Slots.{first_of_slot}
 use Rattle.causal_log.specs.Stores.{dets_in}
-use Rattle.causal_core.proofs.StoreEntries.{store_is}
+use Rattle.causal_core.proofs.RunAfterStep.{store_is}
 use Rattle.causal_core.proofs.runtime.Core+S.named.Goals as goal
 
 pub named_message-requires : goal.named_message-requires

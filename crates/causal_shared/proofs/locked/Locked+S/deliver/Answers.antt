@@ -1,11 +1,12 @@
-use Rattle.std.proofs.Common.{rules}
+use Rattle.std.proofs.Common.{refl, rules}
 use Rattle.causal_core.specs.CoreView.{core_run}
+use Rattle.causal_protocol.specs.declared.request.Reply.TheVariants as Replies
 use Rattle.causal_protocol.specs.declared.request.Request.TheVariants as Requests
 use Rattle.causal_protocol.specs.Steps.{reply_of_delivery}
 use Rattle.causal_shared.specs.History.{history_item}
 use Rattle.causal_shared.specs.Locked.{locked_state}
-use Rattle.causal_shared.proofs.Shown.{shows_delivery}
-use Rattle.causal_shared.proofs.Answered.{err_answered, is_recorded, keeps_on, ok_answered, tells_delivery}
+use Rattle.causal_shared.proofs.Histories.{shows_delivery}
+use Rattle.causal_shared.proofs.Answered.{err_answered, is_recorded, keeps_on, ok_answered, tells}
 use Rattle.causal_shared.proofs.locked.Locked+S.deliver.Goals as goal
 
 pub invariant_of-self-2-clause-is_consistent : goal.invariant_of-self-2-clause-is_consistent
@@ -20,7 +21,7 @@ invariant_of-self-2-clause-is_consistent g c =
 pub returns-clause-item : goal.returns-clause-item
 returns-clause-item g c =
     is_recorded (locked_state c.args.self.now) _ c.args.seat c.args.call c.in_ok-first.first c.reserve_item.new.history.items _ (Requests.Deliver c.args.q c.args.source c.args.ssn) c.of_delivery.result (reply_of_delivery c.deliver-answer.result) _
-    (tells_delivery c.deliver-answer.result c.from_core_result.result c.from_core_result.ensures) c.of_delivery.ensures c.deliver-answer.ensures.step c.in_ok-first.ensures.first c.reserve_item.ensures.items c.append_item.ensures.history c.append_item.ensures.seats (search rules)
+    (tells Replies.Delivered reply_of_delivery (λ x. refl) (λ f. refl) c.deliver-answer.result c.from_core_result.result c.from_core_result.ensures) c.of_delivery.ensures c.deliver-answer.ensures.step c.in_ok-first.ensures.first c.reserve_item.ensures.items c.append_item.ensures.history c.append_item.ensures.seats (search rules)
 
 pub returns-clause-ok : goal.returns-clause-ok
 returns-clause-ok g c = ok_answered _ _ c.deliver-answer.result c.from_core_result.result c.from_core_result.ensures c.deliver-answer.ensures.ok
