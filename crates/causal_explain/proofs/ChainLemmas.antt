@@ -7,7 +7,7 @@ use Rattle.causal_trace.specs.Dependence.{IsEventOf}
 use Rattle.causal_explain.specs.declared.paths.ReachedEvent.{ReachedEvent}
 use Rattle.causal_explain.specs.Chains.{IsShortestChain, IsChain, ShortestChain}
 use Rattle.causal_explain.specs.Inside.ShortestPaths.{HasPath, at_once, onward, IsLeastDistance, IsPathOfLength, Nearest, IsPathToNearest}
-use Rattle.causal_explain.proofs.ComingLemmas.{comes_along}
+use Rattle.causal_explain.proofs.WayLemmas.{comes_along}
 
 module _ (past : List Entry) (i p : ℕ) where
   -- a path leads to the end of a chain, by one step less than the chain has events
@@ -20,8 +20,7 @@ module _ (past : List Entry) (i p : ℕ) where
 
   -- the nearest event of the lane, if there is one, is reached by the fewest steps
   pub all_least : (nearest : Option ReachedEvent) → Nearest past i (λ k. IsEventOf past k p (lane past p)) nearest → IfSome nearest (λ x. IsLeastDistance past i x.position x.steps)
-  all_least None h = tt
-  all_least (Some x) h = record { comes = h.1; least = λ m c. h.2 x.position m h.0 c }
+  all_least nearest h = grind arith
 
   -- the events of the path to the nearest event are a shortest chain
   shortest : (x : ReachedEvent) (chain : List ℕ) → Nearest past i (λ k. IsEventOf past k p (lane past p)) (Some x) → IsPathOfLength past i x.position x.steps chain → IsShortestChain past i p chain

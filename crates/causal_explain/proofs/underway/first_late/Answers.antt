@@ -4,7 +4,7 @@ use Rattle.std.proofs.lemmas.Bool.Decides.{eqb_tells}
 use Rattle.std.proofs.lemmas.List.{length-reverse}
 use Rattle.causal_trace.specs.State.{past_at}
 use Rattle.causal_explain.specs.Underway.{is_late}
-use Rattle.causal_explain.proofs.TransitLemmas.{late_at, late_beyond}
+use Rattle.causal_explain.proofs.MarkLemmas.{late_at, late_beyond}
 use Rattle.causal_explain.proofs.underway.first_late.Goals as goal
 use Rattle.causal_explain.proofs.underway.first_late.Goals.{After-arrives_late}
 
