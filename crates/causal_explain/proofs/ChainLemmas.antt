@@ -5,8 +5,8 @@ use Rattle.causal_trace.specs.declared.entry.Entry.{Entry}
 use Rattle.causal_trace.specs.Past.{lane}
 use Rattle.causal_trace.specs.Dependence.{IsEventOf}
 use Rattle.causal_explain.specs.declared.paths.ReachedEvent.{ReachedEvent}
-use Rattle.causal_explain.specs.Chains.{IsShortestChain, IsChain, ShortestChain}
-use Rattle.causal_explain.specs.Inside.ShortestPaths.{HasPath, at_once, onward, IsLeastDistance, IsPathOfLength, Nearest, IsPathToNearest}
+use Rattle.causal_explain.specs.Chains.{IsChain, ShortestChain}
+use Rattle.causal_explain.specs.Inside.ShortestPaths.{HasPath, at_once, onward, IsLeastDistance, Nearest, IsPathToNearest}
 use Rattle.causal_explain.proofs.WayLemmas.{comes_along}
 
 module _ (past : List Entry) (i p : ℕ) where
@@ -22,18 +22,14 @@ module _ (past : List Entry) (i p : ℕ) where
   pub all_least : (nearest : Option ReachedEvent) → Nearest past i (λ k. IsEventOf past k p (lane past p)) nearest → IfSome nearest (λ x. IsLeastDistance past i x.position x.steps)
   all_least nearest h = grind arith
 
-  -- the events of the path to the nearest event are a shortest chain
-  shortest : (x : ReachedEvent) (chain : List ℕ) → Nearest past i (λ k. IsEventOf past k p (lane past p)) (Some x) → IsPathOfLength past i x.position x.steps chain → IsShortestChain past i p chain
-  shortest x chain h walk = record {
-    leads = record { event = event_of x.position x.steps h.1; rest = walk.rest; begins = walk.begins; last = x.position; path = walk.path; present = h.0 };
-    shortest = λ other leads.
-        let few = h.2 leads.last (length leads.rest) leads.present (led other leads) in
-        omega (arith, few, ap length leads.begins, ap length walk.begins, walk.steps);
-  }
-
   -- the result is a shortest chain, or None if no event is reached
   pub chain_told : (nearest : Option ReachedEvent) (found : Option (List ℕ)) → Nearest past i (λ k. IsEventOf past k p (lane past p)) nearest → IsPathToNearest past i nearest found → ShortestChain past i p found
   chain_told None None h walk = λ chain leads. h leads.last (length leads.rest) leads.present (led chain leads)
   chain_told None (Some chain) h walk = absurd (let no : Some chain ≡ None = walk in cc)
   chain_told (Some x) None h walk = absurd walk
-  chain_told (Some x) (Some chain) h walk = shortest x chain h walk
+  chain_told (Some x) (Some chain) h walk = record {
+    leads = record { event = event_of x.position x.steps h.1; rest = walk.rest; begins = walk.begins; last = x.position; path = walk.path; present = h.0 };
+    shortest = λ other leads.
+        let few = h.2 leads.last (length leads.rest) leads.present (led other leads) in
+        omega (arith, few, ap length leads.begins, ap length walk.begins, walk.steps);
+  }

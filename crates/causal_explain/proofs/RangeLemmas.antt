@@ -9,7 +9,7 @@ use Rattle.causal_trace.specs.Past.{instant, deliveries_in, is_down}
 use Rattle.causal_trace.specs.Rows.{Recording}
 use Rattle.causal_trace.specs.Judgement.{IsCrashSet, HasOrphan, IsSafeTrace}
 use Rattle.causal_audit.specs.declared.breach.Breach.{Breach}
-use Rattle.causal_audit.specs.Breaches.{IsEarliestBreach, EarliestBreachBy, FirstExcess, EarliestBreach}
+use Rattle.causal_audit.specs.Breaches.{IsEarliestBreach, IsFirstBreach, EarliestBreachBy, FirstExcess, EarliestBreach}
 use Rattle.causal_explain.specs.declared.closest.Closest.{Closest}
 use Rattle.causal_explain.specs.declared.closest.Closest.TheVariants.{Never, At}
 use Rattle.causal_explain.specs.Closest.{HasNoOrphan, IsClosest, IsSafeBelowClosest}
@@ -18,7 +18,7 @@ use Rattle.causal_audit.proofs.Lemmas.NumberLemmas.{has_number}
 use Rattle.causal_trace.proofs.Lemmas.AtInstants.{delivered_in}
 use Rattle.causal_audit.specs.declared.verdict.Verdict.{Verdict}
 use Rattle.causal_audit.specs.declared.verdict.Verdict.TheVariants.{Accept}
-use Rattle.causal_audit.specs.Verdicts.{IsVerdict}
+use Rattle.causal_audit.specs.Verdicts.{IsVerdict, IsLeastOrphan}
 use Rattle.causal_explain.specs.Ranges.{HasExcessInstant, HasOrphanInstant, IsSafeRange}
 
 -- a crash set for a bound is one for a greater bound
@@ -64,32 +64,18 @@ leaves r f safe (At faults breach) h =
 -- an earliest breach is the earliest for the size of its crash set as the bound
 by_itself : (r : Recording) (g : ℕ) (b : Breach) → IsEarliestBreach r g 0 (deliveries_in r.past) b → (len b.crash ≤ g) × IsEarliestBreach r (len b.crash) 0 (deliveries_in r.past) b
 by_itself r g b h =
-    let n = r.processes in
     let f = len b.crash in
-    let least = h.first.least in
-    let same : len b.crash ≡ count_below n (contains b.crash) = len_counted n b.crash least.process in
-    let fewer : f ≤ g = omega (arith, same, least.may_crash.few) in (
-      fewer,
-      record {
-        number = h.number;
-        least_from = h.least_from;
-        below_to = h.below_to;
-        numbered = h.numbered;
-        first = record {
-          within = h.first.within;
-          delivery = h.first.delivery;
-          before = λ t early has. h.first.before t early (orphan_more n f g (instant r.past t) b.delivery fewer has);
-          least = record {
-            process = least.process;
-            may_crash = record { down = least.may_crash.down; few = omega (arith, same) };
-            is_orphan = least.is_orphan;
-            least_set = λ other q may is. least.least_set other q (crash_more n f g (instant r.past b.instant) other fewer may) is;
-            least_orphan = least.least_orphan;
-          };
-        };
-        least = λ i k t low high numbered in_time has. h.least i k t low high numbered in_time (orphan_more n f g (instant r.past t) k fewer has);
-      },
-    )
+    let at = instant r.past b.instant in
+    let has = h.first.least in
+    let same : len b.crash ≡ count_below r.processes (contains b.crash) = len_counted r.processes b.crash has.process in
+    let few : count_below r.processes (contains b.crash) ≤ f = omega (arith, same) in
+    let fewer : f ≤ g = omega (arith, same, has.may_crash.few) in
+    let more = λ (t k : ℕ) (x : HasOrphan r.processes f (instant r.past t) k). orphan_more r.processes f g (instant r.past t) k fewer x in
+    let least : IsLeastOrphan r.processes f at b.delivery b.crash b.orphan =
+    assumption (few, λ (other : ℕ → Bool) (q : ℕ) (may : IsCrashSet r.processes f at other). has.least_set other q (crash_more r.processes f g at other fewer may)) in
+    let first : IsFirstBreach r f b.delivery b =
+    assumption (least, λ (t : ℕ) (early : t < b.instant) (x : HasOrphan r.processes f (instant r.past t) b.delivery). h.first.before t early (more t b.delivery x)) in
+    (fewer, record { number = h.number; least_from = h.least_from; below_to = h.below_to; numbered = h.numbered; first = first; least = λ i k t low high numbered in_time x. h.least i k t low high numbered in_time (more t k x) })
 
 -- an earliest breach by any instant is what a search finds
 pub finds_breach : (r : Recording) (f end : ℕ) (b : Breach) → f < 65536 → EarliestBreachBy r f end 0 (deliveries_in r.past) (Some b) → IsFoundBreach r f (Some b)

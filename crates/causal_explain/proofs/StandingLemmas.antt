@@ -4,7 +4,7 @@ use Rattle.std.proofs.lemmas.Bool.{cases_lt, or_parts, and_from, or_from, or_rig
 use Rattle.causal_trace.specs.declared.entry.Entry.{Entry}
 use Rattle.causal_trace.proofs.Lemmas.AtInstants.{instants_stay, last_instant, one_more_instant}
 use Rattle.causal_explain.specs.ProcessFacts.{HoldsSince, ever_holds, ListsExactly, members_below, IsLoss, Loses}
-use Rattle.std.specs.Prelude.{◌&&◌, not, slice_set, filter}
+use Rattle.std.specs.Prelude.{◌&&◌, not, slice_set}
 use Rattle.std.proofs.lemmas.Bool.Decides.{eqb_tells}
 use Rattle.std.proofs.lemmas.List.{length-set, length-take, length-replicate, get_or-set_other, get_or-set_same, get_or-take, get_or-replicate, map-append, append-nil, map-id}
 use Rattle.causal_trace.specs.State.{past_at}
@@ -13,9 +13,8 @@ use Rattle.causal_explain.specs.declared.validity.Change.{Change}
 use Rattle.causal_explain.specs.declared.validity.Validity.{Validity}
 use Rattle.causal_explain.specs.declared.validity.Validity.TheVariants.{Never, Holds, Ended}
 use Rattle.causal_explain.specs.Inside.Validities.{AreValidities, IsOverSince, IsValidity, IsChangeOf}
-use Rattle.std.specs.List.{range_with_len}
-use Rattle.std.proofs.lemmas.List.Elements.{All-push, filter-append}
-use Rattle.std.proofs.lemmas.List.FromFn.{map-range_with_len_more}
+use Rattle.std.proofs.lemmas.List.Elements.{All-push}
+use Rattle.std.proofs.lemmas.List.FromFn.{filter_of_map_range_with_len_more}
 use Rattle.causal_name.specs.declared.Det.{Det}
 use Rattle.causal_trace.specs.Past.{instant, entry_at, logs}
 use Rattle.causal_explain.specs.Inside.Losing.{lost_by}
@@ -82,12 +81,9 @@ stand_next entries i e change test old new below is noted tells stand = grind (a
 
 -- ---- lists of processes that pass a test, built process by process
 
-range_more : (n : ℕ) → range_with_len 0 (n + 1) ≡ range_with_len 0 n ++ n ∷ []
-range_more n = sym (map-id (range_with_len 0 (n + 1))) ∙ map-range_with_len_more (λ x. x) 0 n n (omega arith) ∙ ap (λ xs. xs ++ n ∷ []) (map-id (range_with_len 0 n))
-
 -- the processes that pass, with one process more
 passing_more : (n : ℕ) (test : ℕ → Bool) → members_below (n + 1) test ≡ members_below n test ++ cond (test n) (n ∷ []) []
-passing_more n test = ap (filter test) (range_more n) ∙ filter-append test (range_with_len 0 n) (n ∷ [])
+passing_more n test = simp map-id at (filter_of_map_range_with_len_more test (λ x. x) 0 n n (omega arith))
 
 -- the list with the next process, which passes
 pub tells_one : {X : Type 0} (n : ℕ) (test : ℕ → Bool) (process : X → ℕ) (IsRight : X → Type 0) (told : List X) (x : X)

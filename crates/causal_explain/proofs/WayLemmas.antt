@@ -133,19 +133,13 @@ module _ (e : Entry) (past : List Entry) (i : ℕ) (forward : AreForward (e ∷ 
   -- another event is reached by one step from the nearest one that directly precedes it
   pub way_through : (v : ℕ) → length past ≡ v → (i ≡ length past → is_some (actor e) ≡ true → ⊥) → (x : ReachedEvent) → Nearest past i (PrecedesNext e past) (Some x)
       → IsPathStep (e ∷ past) i v (record { steps = x.steps + 1; previous = x.position })
-  way_through v here other x h = record {
-    fewest = record {
-      comes = onward x.position x.steps comes precedes refl;
-      least = λ n c. grind (arith, comes_newest e past i v n forward (sym here) c);
-    };
-    last = λ m is. (precedes, rw (let same : m ≡ x.steps = omega (arith, is) in same) comes);
-  }
-    where
-      comes : HasPath (e ∷ past) i x.position x.steps
-      comes = comes_more e past i x.position x.steps h.1
-
-      precedes : DirectlyPrecedes (e ∷ past) x.position v
-      precedes = rw (← here) (next_preceded e past x.position h.0)
+  way_through v here other x h =
+      let comes = comes_more e past i x.position x.steps h.1 in
+      let precedes : DirectlyPrecedes (e ∷ past) x.position v = rw (← here) (next_preceded e past x.position h.0) in
+      record {
+        fewest = record { comes = onward x.position x.steps comes precedes refl; least = λ n c. grind (arith, comes_newest e past i v n forward (sym here) c) };
+        last = λ m is. (precedes, rw (let same : m ≡ x.steps = omega (arith, is) in same) comes);
+      }
 
   -- an event is not reached if none that directly precedes it is
   pub no_way : (v : ℕ) → length past ≡ v → (i ≡ length past → is_some (actor e) ≡ true → ⊥) → Nearest past i (PrecedesNext e past) None → (n : ℕ) → HasPath (e ∷ past) i v n → ⊥
