@@ -110,8 +110,7 @@ module _ (n f : ℕ) where
 -- ---- verdicts
 
 more_told : {X : Type 0} (found : Option X) (P Q : X → Type 0) → ((x : X) → P x → Q x) → MatchOption found ⊥ P → MatchOption found ⊥ Q
-more_told None P Q more h = h
-more_told (Some x) P Q more h = more x h
+more_told found P Q more h = grind arith
 
 module _ (r : Recording) (f t : ℕ) where
   -- if the verdict is `Exceeded`, the newest entry of its instant is the cause

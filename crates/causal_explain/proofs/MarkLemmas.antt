@@ -76,7 +76,3 @@ pub late_at : (entries : List Entry) (t k : ℕ) (d : Det) (j : ℕ) (e : Entry)
 late_at entries t k d j e b within below is told =
     let there : entry_at (reverse entries) j ≡ Some e = entry_of entries j ∙ slice_get_read entries (length entries) j e refl below is in
     rw (instant_past entries t within, there) told
-
--- no entry arrives late beyond the last
-pub late_beyond : (past : List Entry) (t k : ℕ) (d : Det) (j : ℕ) → length past ≤ j → is_late past t k d j ≡ false
-late_beyond past t k d j above = rw (entry_beyond past j above)
