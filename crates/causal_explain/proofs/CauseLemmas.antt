@@ -32,9 +32,6 @@ previous past t e older within is = grind (arith, instant_length past t within, 
 
 -- ---- what holds before an entry
 
-still_depends : (e : Entry) (past : List Entry) (k p : ℕ) → AreForward (e ∷ past) → actor e ≡ None → is_down past p ≡ false → lane (e ∷ past) p ≡ lane past p → Depends (e ∷ past) k p → Depends past k p
-still_depends e past k p forward none up same d = elim (depends_old e past k p forward up same d) [ inl old ↦ old | inr new ↦ absurd (let x : None ≡ Some p = sym none ∙ new.0 in cc) ]
-
 -- an orphan is also one under the crash set of the down processes and the holders
 gone_orphan : (n : ℕ) (s : List Entry) (k p : ℕ) (crash : ℕ → Bool) → (o : IsOrphan n s k crash p) → IsOrphan n s k (down_or_holding s o.det) p
 gone_orphan n s k p crash o = grind (arith, or_from (is_down s p) (logs s p o.det) o.depends.up (o.lost p o.process o.survives), or_parts)
@@ -44,7 +41,8 @@ module _ (n f : ℕ) (past : List Entry) (k p : ℕ) (crash : ℕ → Bool) (saf
   no_older : (e : Entry) → AreForward (e ∷ past) → actor e ≡ None → is_down past p ≡ false → lane (e ∷ past) p ≡ lane past p → (o : IsOrphan n (e ∷ past) k crash p) → is_stable past o.det ≡ false
       → (now : ℕ → Bool) → IsCrashSet n f past now → now p ≡ false → ((q : ℕ) → q < n → now q ≡ false → logs past q o.det ≡ false) → ⊥
   no_older e forward none up same o unstable now may survives lost =
-      let depends = still_depends e past k p forward none up same o.depends in
+      let depends : Depends past k p =
+      elim (depends_old e past k p forward up same o.depends) [ inl old ↦ old | inr new ↦ absurd (let x : None ≡ Some p = sym none ∙ new.0 in cc) ] in
       let delivered = sym (det_more e past k (reaches_begins past k depends.event depends.reached)) ∙ o.delivered in
       safe.no_orphan k (record {
         crash = now;
@@ -112,8 +110,7 @@ module _ (n f : ℕ) where
 -- ---- verdicts
 
 more_told : {X : Type 0} (found : Option X) (P Q : X → Type 0) → ((x : X) → P x → Q x) → MatchOption found ⊥ P → MatchOption found ⊥ Q
-more_told None P Q more h = h
-more_told (Some x) P Q more h = more x h
+more_told found P Q more h = grind arith
 
 module _ (r : Recording) (f t : ℕ) where
   -- if the verdict is `Exceeded`, the newest entry of its instant is the cause

@@ -1,14 +1,6 @@
 mod CauseLemmas
 mod ChainLemmas
-mod ClosestLemmas
-mod ComingLemmas
-mod EachLemmas
 mod MarkLemmas
-mod LossLemmas
-mod OrphanLemmas
 mod RangeLemmas
-mod SinceLemmas
 mod StandingLemmas
-mod TransitLemmas
-mod WalkLemmas
 mod WayLemmas

@@ -1,40 +1,92 @@
--- The nearest of some events, and the path to each, with one more entry.
-use Rattle.std.proofs.Common.{ℕ, ◌≡◌, ◌+◌, ◌<◌, ◌≤◌, inl, inr, true, List, [], ◌∷◌, ◌++◌, length, get_or, reverse, replicate, Option, Some, None, refl, sym, subst, ◌∙◌, arith}
-use Rattle.std.specs.Prelude.{◌⊎◌, ◌==◌, slice_set, IfSome}
+-- The number of steps from an event to others, with one more entry.
+use Rattle.std.proofs.Common.{ℕ, ◌≡◌, ◌+◌, ◌<◌, ◌≤◌, inl, inr, true, List, [], ◌∷◌, length, refl, sym, ap, subst, ◌∙◌, arith, ◌++◌, get_or, reverse, replicate, Option, Some, None, ◌-◌}
 use Rattle.std.specs.Option.{is_some}
+use Rattle.causal_trace.specs.declared.entry.Entry.{Entry}
+use Rattle.causal_trace.specs.Past.{lane}
+use Rattle.causal_trace.specs.Laws.{IsPath}
+use Rattle.causal_trace.specs.Dependence.{AreForward, actor, IsEventOf, DirectlyPrecedes, in_order, by_message}
+use Rattle.causal_trace.proofs.Lemmas.DependenceSteps.{event_below, event_old, delivers_below, precedes_before, precedes_old, precedes_more, event_lane}
+use Rattle.causal_explain.specs.Inside.ShortestPaths.{HasPath, at_once, onward, PrecedesNext, AreNearest, ArePathSteps, IsLeastDistance, IsPathStep, Nearest, IsPathStepOf, closer_event, IsPathOfLength}
+use Rattle.std.specs.Prelude.{◌⊎◌, ◌==◌, slice_set, IfSome}
 use Rattle.std.proofs.lemmas.Bool.{false≢true, cond-true, cond-false, eq-eqb, ne_eqb}
 use Rattle.std.proofs.lemmas.Bool.Decides.{eqb_tells}
-use Rattle.std.proofs.lemmas.List.{length-append, length-replicate, length-set, get_or-replicate, get_or-set_other, get_or-set_same}
+use Rattle.std.proofs.lemmas.List.{length-append, length-replicate, length-set, get_or-replicate, get_or-set_other, get_or-set_same, reverse-append}
 use Rattle.std.proofs.Math.ListN.{get_or-append}
 use Rattle.std.proofs.Math.Seq.{get_or-append_seam}
 use Rattle.causal_name.specs.declared.Det.{Det}
 use Rattle.causal_name.specs.declared.Pid.{Pid}
-use Rattle.causal_trace.specs.declared.entry.Entry.{Entry}
 use Rattle.causal_trace.specs.declared.entry.Entry.TheVariants.{Deliver, Restart}
-use Rattle.causal_trace.specs.Past.{lane}
 use Rattle.causal_trace.specs.State.{past_at}
 use Rattle.causal_trace.proofs.Lemmas.AtInstants.{at_instant}
 use Rattle.causal_trace.proofs.Lemmas.Instants.{instant_past}
-use Rattle.causal_trace.specs.Dependence.{AreForward, actor, DirectlyPrecedes, IsEventOf}
-use Rattle.causal_trace.proofs.Lemmas.DependenceSteps.{event_below, event_lane, precedes_more}
 use Rattle.causal_explain.specs.declared.paths.ReachedEvent.{ReachedEvent}
 use Rattle.causal_explain.specs.declared.paths.PathStep.{PathStep}
-use Rattle.causal_explain.specs.Inside.ShortestPaths.{AreNearest, ArePathSteps, HasPath, at_once, onward, IsLeastDistance, IsPathStep, Nearest, PrecedesNext, IsPathStepOf, closer_event}
-use Rattle.causal_explain.proofs.ComingLemmas.{comes_more, comes_old, comes_within, comes_few, comes_newest, next_preceded}
+
+-- an event that precedes the next entry directly precedes it, once it is there
+pub next_preceded : (e : Entry) (past : List Entry) (j : ℕ) → PrecedesNext e past j → DirectlyPrecedes (e ∷ past) j (length past)
+next_preceded e past j (inl h) = in_order h.0 (lane past h.0) (event_below past j h.0 (lane past h.0) h.2) (inl h.2) (inr (refl, h.1, refl))
+next_preceded e past j (inr h) = by_message (inr (refl, h))
+
+-- steps that lead to an event still do with one more entry
+pub comes_more : (e : Entry) (past : List Entry) (i k n : ℕ) → HasPath past i k n → HasPath (e ∷ past) i k n
+comes_more e past i k n (at_once p l at is none) = at_once p l (inl at) is none
+comes_more e past i k n (onward j m c d is) = onward j m (comes_more e past i j m c) (precedes_more e past j k d) is
+
+-- no new steps lead to an earlier event
+pub comes_old : (e : Entry) (past : List Entry) (i k n : ℕ) → AreForward (e ∷ past) → k < length past → HasPath (e ∷ past) i k n → HasPath past i k n
+comes_old e past i k n forward below (at_once p l at is none) = at_once p l (event_old e past i p l (omega (arith, below, is)) at) is none
+comes_old e past i k n forward below (onward j m c d is) =
+    let earlier : j < k = precedes_before (e ∷ past) j k forward d in
+    onward j m (comes_old e past i j m forward (omega (arith, below, earlier)) c) (precedes_old e past j k below d) is
+
+-- an event that is reached is in the past
+pub comes_within : (past : List Entry) (i k n : ℕ) → HasPath past i k n → k < length past
+comes_within past i k n (at_once p l at is none) = omega (arith, event_below past i p l at, is)
+comes_within past i k n (onward j m c (in_order p l h a b) is) = event_below past k p l b
+comes_within past i k n (onward j m c (by_message h) is) = delivers_below past k j h
+
+-- each step advances by at least one position
+pub comes_few : (past : List Entry) (i k n : ℕ) → AreForward past → HasPath past i k n → n ≤ k
+comes_few past i k n forward (at_once p l at is none) = omega (arith, none)
+comes_few past i k n forward (onward j m c d is) = grind (arith, precedes_before past j k forward d, is, comes_few past i j m forward c)
+
+-- an event that is reached by zero steps is the start itself
+pub comes_nowhere : (past : List Entry) (i k : ℕ) → (n : ℕ) → n ≡ 0 → HasPath past i k n → k ≡ i
+comes_nowhere past i k n zero (at_once p l at is none) = is
+comes_nowhere past i k n zero (onward j m c d is) = absurd (omega (arith, zero, is))
+
+-- how the newest entry is reached from i: it is that event, or an event that directly precedes it is reached
+pub data ComesNewest (e : Entry) (past : List Entry) (i n : ℕ) : Type 0 where
+  is_newest : i ≡ length past → is_some (actor e) ≡ true → n ≡ 0 → ComesNewest e past i n
+  through : (j m : ℕ) → PrecedesNext e past j → HasPath past i j m → n ≡ m + 1 → ComesNewest e past i n
+
+-- the newest event is reached by zero steps, or by one more than an event that directly precedes it
+pub comes_newest : (e : Entry) (past : List Entry) (i k n : ℕ) → AreForward (e ∷ past) → k ≡ length past → HasPath (e ∷ past) i k n → ComesNewest e past i n
+comes_newest e past i k n forward here (at_once p l (inl old) is none) = absurd (omega (arith, event_below past i p l old, is, here))
+comes_newest e past i k n forward here (at_once p l (inr new) is none) = is_newest (sym is ∙ here) (ap is_some new.1) none
+comes_newest e past i k n forward here (onward j m c (in_order p l h a (inl b)) is) = absurd (omega (arith, event_below past k p l b, here))
+comes_newest e past i k n forward here (onward j m c (in_order p l h a (inr b)) is) =
+    let below : j < length past = omega (arith, h, here) in
+    through j m (inl (p, b.1, subst (IsEventOf past j p) (sym b.2) (event_old e past j p l below a))) (comes_old e past i j m forward below c) is
+comes_newest e past i k n forward here (onward j m c (by_message (inl h)) is) = absurd (omega (arith, delivers_below past k j h, here))
+comes_newest e past i k n forward here (onward j m c (by_message (inr h)) is) = through j m (inr h.1) (comes_old e past i j m forward (omega (arith, forward k j (inr h), here)) c) is
+
+-- steps that lead to the start of a path also lead to its end, with those of the path
+pub comes_along : (past : List Entry) (i j k n m : ℕ) (over : List ℕ) → HasPath past i j n → IsPath past j over k → m ≡ n + length over → HasPath past i k m
+comes_along past i j k n m [] c path is = subst (λ x. HasPath past i x m) path (subst (HasPath past i j) (let same : n ≡ m = omega (arith, is) in same) c)
+comes_along past i j k n m (v ∷ over) c path is = comes_along past i v k (n + 1) m over (onward j n c path.0 refl) path.1 (omega (arith, is))
+
+-- ---- the nearest of some events, and the path to each, with one more entry
 
 module _ (past : List Entry) (i : ℕ) (A B C : ℕ → Type 0) (either : (k : ℕ) → C k → A k ⊎ B k) (one : (k : ℕ) → A k → C k) (other : (k : ℕ) → B k → C k) where
   -- the closer one of the nearest of two kinds is the nearest of both
   pub nearest_of_both : (a b : Option ReachedEvent) → Nearest past i A a → Nearest past i B b → Nearest past i C (closer_event a b)
-  nearest_of_both None None h g = λ k n is c. elim (either k is) [ inl in_a ↦ h k n in_a c | inr in_b ↦ g k n in_b c ]
-  nearest_of_both None (Some b) h g = (other b.position g.0, g.1, λ k n is c. elim (either k is) [ inl in_a ↦ absurd (h k n in_a c) | inr in_b ↦ g.2 k n in_b c ])
-  nearest_of_both (Some a) None h g = (one a.position h.0, h.1, λ k n is c. elim (either k is) [ inl in_a ↦ h.2 k n in_a c | inr in_b ↦ absurd (g k n in_b c) ])
-  nearest_of_both (Some a) (Some b) h g = grind arith
+  nearest_of_both a b h g = grind arith
 
 -- the nearest of earlier events is unchanged with one more entry
 pub nearest_still : (e : Entry) (past : List Entry) (i : ℕ) (A B : ℕ → Type 0) → AreForward (e ∷ past) → ((k : ℕ) → A k → k < length past) → ((k : ℕ) → A k → B k) → ((k : ℕ) → B k → A k)
     → (found : Option ReachedEvent) → Nearest past i A found → Nearest (e ∷ past) i B found
-nearest_still e past i A B forward within to from None h = λ k n is c. h k n (from k is) (comes_old e past i k n forward (within k (from k is)) c)
-nearest_still e past i A B forward within to from (Some x) h = grind (arith, comes_more e past i x.position x.steps h.1, comes_old)
+nearest_still e past i A B forward within to from found h = grind (arith, comes_more, comes_old)
 
 -- the nearest event of a process that the entry does not concern is unchanged
 pub lane_still : (e : Entry) (past : List Entry) (i p : ℕ) (found : Option ReachedEvent) → AreForward (e ∷ past) → (actor e ≡ Some p → ⊥) → lane (e ∷ past) p ≡ lane past p
@@ -81,19 +133,13 @@ module _ (e : Entry) (past : List Entry) (i : ℕ) (forward : AreForward (e ∷ 
   -- another event is reached by one step from the nearest one that directly precedes it
   pub way_through : (v : ℕ) → length past ≡ v → (i ≡ length past → is_some (actor e) ≡ true → ⊥) → (x : ReachedEvent) → Nearest past i (PrecedesNext e past) (Some x)
       → IsPathStep (e ∷ past) i v (record { steps = x.steps + 1; previous = x.position })
-  way_through v here other x h = record {
-    fewest = record {
-      comes = onward x.position x.steps comes precedes refl;
-      least = λ n c. grind (arith, comes_newest e past i v n forward (sym here) c);
-    };
-    last = λ m is. (precedes, rw (let same : m ≡ x.steps = omega (arith, is) in same) comes);
-  }
-    where
-      comes : HasPath (e ∷ past) i x.position x.steps
-      comes = comes_more e past i x.position x.steps h.1
-
-      precedes : DirectlyPrecedes (e ∷ past) x.position v
-      precedes = rw (← here) (next_preceded e past x.position h.0)
+  way_through v here other x h =
+      let comes = comes_more e past i x.position x.steps h.1 in
+      let precedes : DirectlyPrecedes (e ∷ past) x.position v = rw (← here) (next_preceded e past x.position h.0) in
+      record {
+        fewest = record { comes = onward x.position x.steps comes precedes refl; least = λ n c. grind (arith, comes_newest e past i v n forward (sym here) c) };
+        last = λ m is. (precedes, rw (let same : m ≡ x.steps = omega (arith, is) in same) comes);
+      }
 
   -- an event is not reached if none that directly precedes it is
   pub no_way : (v : ℕ) → length past ≡ v → (i ≡ length past → is_some (actor e) ≡ true → ⊥) → Nearest past i (PrecedesNext e past) None → (n : ℕ) → HasPath (e ∷ past) i v n → ⊥
@@ -143,8 +189,7 @@ lanes_none i n = λ p below. subst (Nearest [] i (λ k. IsEventOf [] k p 0)) (sy
 
 -- the nearest event, if any, is reached by fewer steps than this number of entries
 pub nearest_below : (past : List Entry) (i : ℕ) (A : ℕ → Type 0) (n : ℕ) (found : Option ReachedEvent) → AreForward past → length past ≡ n → Nearest past i A found → IfSome found (λ x. x.steps < n)
-nearest_below past i A n None forward long h = tt
-nearest_below past i A n (Some x) forward long h = omega (arith, comes_few past i x.position x.steps forward h.1, comes_within past i x.position x.steps h.1, long)
+nearest_below past i A n found forward long h = grind (arith, comes_few, comes_within)
 
 -- the event one step back is reached by one step less
 pub step_back : (past : List Entry) (i k n : ℕ) (w : PathStep) → IsPathStep past i k w → IsLeastDistance past i k (n + 1) → DirectlyPrecedes past w.previous k × IsLeastDistance past i w.previous n
@@ -158,3 +203,38 @@ step_back past i k n w h fewest =
 -- at each instant of a run, no delivery precedes its send
 pub forward_at : (es : List Entry) (t : ℕ) → t ≤ length es → AreForward (reverse es) → AreForward (past_at es t)
 forward_at es t within h = subst AreForward (instant_past es t within) (at_instant AreForward (λ e past k j i d. k j i (inl d)) (reverse es) t h)
+
+-- ---- a path to an event, traced back from its last step
+
+-- of `total` steps, `gone` are traced back, to this position
+pub record IsWalkedBack (past : List Entry) (i last total gone position : ℕ) (chain : List ℕ) : Type 0 where
+  pub rest : List ℕ
+  pub reversed : reverse chain ≡ position ∷ rest
+  pub path : IsPath past position rest last
+  -- the steps that are traced back
+  pub steps : length rest ≡ gone
+  pub left : ℕ
+  pub in_all : left + gone ≡ total
+  -- the position is reached from i by as many steps as are left, and by no fewer
+  pub fewest : IsLeastDistance past i position left
+
+-- one more step is traced back, to an event from which one step less is left
+pub walk_more : (past : List Entry) (i last total gone position : ℕ) (chain : List ℕ) (next : ℕ) → gone < total → IsWalkedBack past i last total gone position chain
+    → ((n : ℕ) → IsLeastDistance past i position (n + 1) → DirectlyPrecedes past next position × IsLeastDistance past i next n) → IsWalkedBack past i last total (gone + 1) next (chain ++ next ∷ [])
+walk_more past i last total gone position chain next below h back =
+    let n = h.left - 1 in
+    let one_more : h.left ≡ n + 1 = omega (arith, below, h.in_all) in
+    let before = back n (subst (IsLeastDistance past i position) one_more h.fewest) in
+    record {
+      rest = position ∷ h.rest;
+      reversed = reverse-append chain (next ∷ []) ∙ ap (λ xs. next ∷ xs) h.reversed;
+      path = (before.0, h.path);
+      steps = omega (arith, h.steps);
+      left = n;
+      in_all = omega (arith, h.in_all, one_more);
+      fewest = before.1;
+    }
+
+-- after all steps, the reversed chain is the path in the order of the run
+pub walk_over : (past : List Entry) (i last total gone position : ℕ) (chain : List ℕ) → gone ≡ total → IsWalkedBack past i last total gone position chain → IsPathOfLength past i last total (reverse chain)
+walk_over past i last total gone position chain over h = grind (arith, comes_nowhere)

@@ -59,7 +59,7 @@ fn reached_by(way: Option<PathStep>, position: u32) -> Option<ReachedEvent>
 }
 
 /// Returns the event at a position, if it was read and is reached.
-#[tactic(auto, using(crate::proofs::ComingLemmas::comes_within))]
+#[tactic(auto, using(crate::proofs::WayLemmas::comes_within))]
 fn reached_at(ways: &[Option<PathStep>], position: u32) -> Option<ReachedEvent>
     ensures { (past : List Entry) (i : ℕ) → ArePathSteps past i ways.now →
         Nearest past i (λ k. k ≡ position) result }

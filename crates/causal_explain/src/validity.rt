@@ -59,7 +59,7 @@ impl Validity {
     }
 
     /// Returns since when the fact holds; None if it does not hold.
-    #[tactic(auto, using(crate::proofs::SinceLemmas::fails_now))]
+    #[tactic(auto, using(crate::proofs::StandingLemmas::fails_now))]
     pub fn holds_since(self) -> Option<u32>
         ensures { (past : List Entry) (test : List Entry → Bool) → IsValidity past test self →
             MatchOption result (test past ≡ false) (HoldsSince past test) }

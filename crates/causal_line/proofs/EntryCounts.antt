@@ -1,5 +1,5 @@
 -- Values computed by a scan of all entries.
-use Rattle.std.proofs.Common.{◌≡◌, ◌<◌, ◌+◌, ◌∙◌, ℕ, List, ◌∷◌, length, get_or, Option, subst, arith}
+use Rattle.std.proofs.Common.{◌≡◌, ◌<◌, ◌+◌, ◌∙◌, ℕ, List, ◌∷◌, length, get_or, Option, subst, arith, Some, true}
 use Rattle.causal_name.specs.declared.MsgName.{MsgName}
 use Rattle.std.specs.Prelude.{reverse}
 use Rattle.std.proofs.lemmas.List.{reverse-reverse}
@@ -9,6 +9,9 @@ use Rattle.causal_line.specs.Deliveries.{delivery_position}
 use Rattle.causal_name.specs.declared.Det.{Det}
 use Rattle.causal_trace.specs.State.{past_at}
 use Rattle.causal_trace.proofs.Lemmas.Instants.{past_more, past_length, past_whole, det_there}
+use Rattle.std.specs.BTreeSet.{BTreeSet, contains, Updates}
+use Rattle.std.proofs.lemmas.Bool.{cases_lt}
+use Rattle.causal_name.specs.Names.{det_cmp}
 
 -- all entries of a run are its past
 pub whole : (past : List Entry) → past_at (reverse past) (length (reverse past)) ≡ past
@@ -30,3 +33,17 @@ found_next past es i e p m found next own same below is own_is so step =
       past_length,
       own_at past i e (subst (λ (xs : List Entry). i < length xs) same below) (subst (λ (xs : List Entry). e ≡ get_or xs i e) same is),
     )
+
+-- ---- the set of the determinants of the first deliveries
+
+-- the set contains the determinants of the deliveries at the first k positions
+abbrev pub HasFirst : List Entry → ℕ → BTreeSet Det → Type 0
+HasFirst past k set = (j : ℕ) (d : Det) → j < k → det_at past j ≡ Some d → contains det_cmp set d ≡ true
+
+-- the case where the next position has a delivery
+pub first_more : (past : List Entry) (k : ℕ) (set next : BTreeSet Det) (det : Det) → HasFirst past k set → det_at past k ≡ Some det → Updates det_cmp set next det true → HasFirst past (k + 1) next
+first_more past k set next det before is updates j d below at = grind (arith, cases_lt j k)
+
+-- the case where it has none
+pub first_same : (past : List Entry) (k : ℕ) (set : BTreeSet Det) → HasFirst past k set → ((d : Det) → det_at past k ≡ Some d → ⊥) → HasFirst past (k + 1) set
+first_same past k set before none j d below at = grind (arith, cases_lt j k)

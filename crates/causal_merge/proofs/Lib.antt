@@ -1,10 +1,5 @@
 pub mod Lemmas
-mod Looks
-pub mod MissingHeaders
 mod Outlines
-mod Prefixes
-mod ReadLemmas
-mod RefusedEntries
+pub mod ReadLemmas
 mod SendLemmas
 pub mod TornLemmas
-mod Wholes

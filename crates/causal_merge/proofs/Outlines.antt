@@ -1,5 +1,5 @@
 -- A value that fails the scan for the outline of a line has none of the shapes of a recorder file's line.
-use Rattle.std.proofs.Common.{arith, ◌≡◌, ℕ, ◌^◌, true, false, Err, refl}
+use Rattle.std.proofs.Common.{arith, ◌≡◌, ℕ, ◌^◌, true, false, Err, refl, Result, Ok}
 use Rattle.std.specs.Prelude.{◌&&◌, List, [], Bool, bytes_eq, codes, Some}
 use Rattle.serde_json.specs.Data.{Data, array, no_items, item}
 use Rattle.serde_json.specs.Find.{at}
@@ -12,6 +12,7 @@ use Rattle.causal_line.proofs.Lemmas.Unfit.{process_or, number_or, or_else, last
 use Rattle.causal_merge.specs.declared.event.Action.{Action}
 use Rattle.causal_merge.specs.declared.event.Action.TheVariants.{Crash, Restart, Forget}
 use Rattle.causal_merge.specs.Shapes.{parse_recording_header, parse_event, parse_send_event, parse_deliver_event, parse_stable_event, parse_restart_event, parse_forget_event, heard_of, parse_recorder_value}
+use Rattle.causal_line.specs.declared.kind.TextKind.{TextKind}
 
 -- if the process or the clock of an event fails the scan, its form is refused
 event_bad : (d b c : Data) (act : Action) → at 1 d ≡ Some b → at 2 d ≡ Some c → (value_fits 2 b && value_fits 2 c) ≡ false → parse_event d act ≡ Err Form
@@ -84,3 +85,9 @@ unfolding parse_recorder_value parse_restart_event parse_forget_event
 no_line d h =
     either _ _ _ (header_bad d h) (either _ _ _ (send_bad d h) (either _ _ _ (deliver_bad d h) (either _ _ _ (stable_bad d h)
     (either _ _ _ (crash_bad d h) (either _ _ _ (listing_bad (codes "restart") Restart d refl h) (either _ _ _ (listing_bad (codes "forget") Forget d refl h) (either _ _ _ (heard_bad d h) refl)))))))
+
+-- ---- what the scan of a long line implies for its JSON value
+
+-- bytes that fail the scan are JSON that has none of the shapes of a line
+pub shapeless : (r : Result Data TextKind) → (r >>= λ d. Ok (value_fits levels d)) ≡ Ok false → (d : Data) × (r ≡ Ok d) × (parse_recorder_value d ≡ Err Form)
+shapeless r h = grind (arith, no_line)

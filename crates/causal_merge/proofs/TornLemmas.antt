@@ -16,7 +16,7 @@ use Rattle.causal_merge.specs.Laws.{IsWholeLine}
 
 -- if each number fails, none passes
 pub none_below : (n : ℕ) (test : ℕ → Bool) → ((k : ℕ) → k < n → test k ≡ false) → any_below n test ≡ false
-none_below n test h = false_from_ne_true _ (λ some. let found = any_below-found n test some in both_ways _ (h found.0 found.1) found.2)
+none_below n test h = grind (arith, any_below-found)
 
 -- if none passes, each number fails
 pub each_below : (n : ℕ) (test : ℕ → Bool) (k : ℕ) → any_below n test ≡ false → k < n → test k ≡ false
@@ -82,9 +82,7 @@ prefix_is_torn line k whole some short =
 -- ---- lines with a whole line in them
 
 closes_inside : (line after : List ℕ) → 0 < length line → are_closed line ≡ true → closes_within (length (line ++ after)) (line ++ after) ≡ true
-closes_inside line after some closed =
-    let size : length (line ++ after) ≡ length line + length after = length-append line after in
-    shows_closed (length (line ++ after)) (length line) (line ++ after) some (omega (arith, size)) (ap are_closed (take-append_seam line after) ∙ closed)
+closes_inside line after some closed = grind (arith, shows_closed, length-append line after, take-append_seam line after)
 
 -- nothing that begins with a byte and a whole line begins as a torn line
 two_brackets : (x : ℕ) (line after : List ℕ) → begins_torn line ≡ true → 2 ≤ length line → begins_torn (x ∷ (line ++ after)) ≡ false

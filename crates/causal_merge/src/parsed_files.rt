@@ -16,7 +16,7 @@ use causal_line::kind::TextKind;
 use std::alloc::Global;
 
 // those of the first n flags that are not set
-#[tactic(auto, using(crate::proofs::MissingHeaders::of_missing))]
+#[tactic(auto, using(crate::proofs::ReadLemmas::of_missing))]
 fn unset_among(headers_seen: &[bool; 256], n: u16) -> ByteSet
     requires { n ≤ 256 }
     ensures { HasMembers n result (λ p. not (slice_index_or headers_seen.now p false)) }

@@ -15,7 +15,7 @@ use std::alloc::Global;
 const LONG: usize = 16_384;
 
 /// Returns the JSON value of these bytes; None if they are JSON that has none of the shapes of a line.
-#[tactic(auto, using(crate::proofs::Looks::shapeless))]
+#[tactic(auto, using(crate::proofs::Outlines::shapeless))]
 pub(crate) fn value_of(alloc: Global, bytes: &[u8]) -> Result<Option<Value>, TextKind>
     ensures ok { IfOk result (IsValueOf bytes.now) }
     ensures err { IfErr result (λ kind. IsFaultOrNoMemory kind kind (parse_json bytes.now)) }

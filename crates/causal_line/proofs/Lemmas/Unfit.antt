@@ -1,15 +1,15 @@
 -- A line whose fields do not fit its outline has the error `Form`, whatever its name.
-use Rattle.std.proofs.Common.{◌≡◌, ◌⊎◌, ℕ, suc, ◌-◌, ◌^◌, arith, ne_eqb, zero, List, [], Bool, true, false, Option, Some, None, Result, Ok, Err, inl, inr, refl, ap, ◌∙◌, cond}
+use Rattle.std.proofs.Common.{◌≡◌, ◌⊎◌, ℕ, suc, ◌-◌, ◌^◌, arith, ne_eqb, zero, List, [], Bool, true, false, Option, Some, Result, Ok, Err, inl, inr, refl, ap, ◌∙◌, cond}
 use Rattle.std.specs.Prelude.{◌&&◌, ◌==◌, bytes_eq, option_and_then, unwrap_or}
 use Rattle.std.proofs.lemmas.Bool.{and_parts, eqb-true}
 use Rattle.serde_json.specs.Data.{Data, array, Items, no_items, item}
 use Rattle.serde_json.specs.Events.{items_len}
-use Rattle.serde_json.specs.Find.{at, as_str, as_array, as_number, as_u64}
+use Rattle.serde_json.specs.Find.{at, as_str, as_array}
 use Rattle.causal_name.specs.declared.Pid.{Pid}
 use Rattle.causal_line.specs.declared.kind.TextKind.{TextKind}
 use Rattle.causal_line.specs.declared.kind.TextKind.TheVariants.{Form}
 use Rattle.causal_line.specs.Reading.{◌>>=◌}
-use Rattle.causal_line.specs.ParsedLines.{or_form, array_len, number_below, number_at, u8_at, pid_at, u32_at, u64_at, parse_det, parse_dets, dets_at, is_array_named}
+use Rattle.causal_line.specs.ParsedLines.{or_form, array_len, number_at, u8_at, pid_at, u32_at, u64_at, parse_det, parse_dets, dets_at, is_array_named}
 use Rattle.causal_line.specs.Prescan.{levels, count_capped, may_have_items, value_fits, items_fit}
 
 -- if the result is an error, its kind is `Form`
@@ -78,19 +78,13 @@ IsPlainly-dets i d e h = grind (arith, IsPlainly-list)
 
 -- ---- fields that exist and do not fit
 
-number_none : (limit left : ℕ) (x : Data) → value_fits left x ≡ false → number_below limit x ≡ None
-number_none limit left x h = grind arith
-
 -- a value that does not fit is refused as a number below a limit
 pub number_bad : (limit left i : ℕ) (d x : Data) → at i d ≡ Some x → value_fits left x ≡ false → number_at limit i d ≡ Err Form
-number_bad limit left i d x is h = ap (λ o. or_form (option_and_then (number_below limit) o)) is ∙ ap or_form (number_none limit left x h)
-
-u64_none : (left : ℕ) (x : Data) → value_fits left x ≡ false → option_and_then as_u64 (as_number x) ≡ None
-u64_none left x h = grind arith
+number_bad limit left i d x is h = grind (arith, is)
 
 -- a value that does not fit is refused as a number
 pub u64_bad : (left i : ℕ) (d x : Data) → at i d ≡ Some x → value_fits left x ≡ false → u64_at i d ≡ Err Form
-u64_bad left i d x is h = ap (λ o. or_form (option_and_then as_u64 (option_and_then as_number o))) is ∙ ap or_form (u64_none left x h)
+u64_bad left i d x is h = grind (arith, is)
 
 -- a value that does not fit is refused as a process
 pub pid_bad : (left i : ℕ) (d x : Data) → at i d ≡ Some x → value_fits left x ≡ false → pid_at i d ≡ Err Form
@@ -133,10 +127,6 @@ dets_bad i d x is h = ap (λ o. or_form (option_and_then as_array o) >>= parse_d
 
 -- ---- lines by their length
 
--- a value that is a name fits
-named : (name : List ℕ) (x : Data) → bytes_eq [] name ≡ false → bytes_eq (unwrap_or (as_str x) []) name ≡ true → value_fits 2 x ≡ true
-named name x none h = grind arith
-
 -- the first field of a line is this name
 abbrev pub IsNamed : List ℕ → Data → Type 0
 IsNamed name d = bytes_eq (unwrap_or (option_and_then as_str (at 0 d)) []) name ≡ true
@@ -161,9 +151,8 @@ of_line n name R _ h is all = absurd (omega (arith, eqb-true 0 (suc n) (and_part
 
 -- the fields after the name
 pub fields : (name : List ℕ) (x : Data) (more : Bool) → bytes_eq [] name ≡ false → (value_fits 2 x && more) ≡ false → bytes_eq (unwrap_or (as_str x) []) name ≡ true → more ≡ false
-fields name x more none h is = grind (arith, named name x none is)
+fields name x more none h is = grind arith
 
 -- a choice fails with `Form` if both alternatives do
 pub either : {A : Type 0} (b : Bool) (x y : Result A TextKind) → (b ≡ true → x ≡ Err Form) → y ≡ Err Form → cond b x y ≡ Err Form
-either true x y h k = h refl
-either false x y h k = k
+either b x y h k = grind arith

@@ -4,7 +4,7 @@ use Rattle.std.proofs.lemmas.List.{reverse-append}
 use Rattle.causal_merge.specs.declared.fault.MergeFault.{MergeFault}
 use Rattle.causal_merge.specs.ParsedFiles.{IsFaultOfLines}
 use Rattle.causal_merge.specs.RecordingReaders.{RecordingReaderState, HasReadLines, IsReadBy}
-use Rattle.causal_merge.proofs.Prefixes.{reading-after}
+use Rattle.causal_merge.proofs.ReadLemmas.{reading-after}
 
 -- the lines in front, and then the last ones
 pub read_both : (first second : RecordingReaderState) (front last : List (List ℕ)) (r : Result RecordingReaderState MergeFault) → IsReadBy first front (Ok second) → IsReadBy second last r → IsReadBy first (front ++ last) r

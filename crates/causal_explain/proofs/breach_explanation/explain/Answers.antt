@@ -1,5 +1,5 @@
 use Rattle.causal_trace.specs.Past.{instant}
-use Rattle.causal_explain.proofs.OrphanLemmas.{depends_led}
+use Rattle.causal_explain.proofs.ChainLemmas.{depends_led}
 use Rattle.causal_explain.proofs.breach_explanation.explain.Goals as goal
 
 pub unreachable-requires-in_default-found : goal.unreachable-requires-in_default-found

@@ -1,5 +1,5 @@
 use Rattle.std.proofs.Common.{arith}
-use Rattle.causal_explain.proofs.ClosestLemmas.{none_fewer}
+use Rattle.causal_explain.proofs.RangeLemmas.{none_fewer}
 use Rattle.causal_explain.proofs.closest.bisect.Goals as goal
 
 pub loop-low-init : goal.loop-low-init

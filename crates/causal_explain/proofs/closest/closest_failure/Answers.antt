@@ -1,7 +1,7 @@
 use Rattle.std.proofs.Common.{arith}
 use Rattle.std.proofs.lemmas.Result.{IfOk-weaker}
 use Rattle.causal_explain.specs.declared.closest.Closest.TheVariants.{Never}
-use Rattle.causal_explain.proofs.ClosestLemmas.{leaves, none_ever, safe_none}
+use Rattle.causal_explain.proofs.RangeLemmas.{leaves, none_ever, safe_none}
 use Rattle.causal_explain.proofs.closest.closest_failure.Goals as goal
 
 pub bisect-requires-clause-none : goal.bisect-requires-clause-none

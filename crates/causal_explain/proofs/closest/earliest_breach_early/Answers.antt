@@ -1,5 +1,5 @@
 use Rattle.std.proofs.Common.{arith}
-use Rattle.causal_explain.proofs.ClosestLemmas.{finds_breach}
+use Rattle.causal_explain.proofs.RangeLemmas.{finds_breach}
 use Rattle.causal_explain.proofs.closest.earliest_breach_early.Goals as goal
 
 pub returns-in-Some : goal.returns-in-Some

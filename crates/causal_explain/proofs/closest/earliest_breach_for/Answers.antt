@@ -1,6 +1,6 @@
 use Rattle.std.proofs.Common.{arith}
 use Rattle.std.proofs.lemmas.Result.{IfOk-weaker}
-use Rattle.causal_explain.proofs.ClosestLemmas.{finds}
+use Rattle.causal_explain.proofs.RangeLemmas.{finds}
 use Rattle.causal_explain.proofs.closest.earliest_breach_for.Goals as goal
 
 pub returns : goal.returns

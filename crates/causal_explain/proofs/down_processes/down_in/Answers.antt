@@ -1,7 +1,6 @@
 use Rattle.std.proofs.Common.{refl, arith}
 use Rattle.causal_trace.specs.Past.{is_down}
-use Rattle.causal_explain.proofs.EachLemmas.{tells_one, tells_skipped}
-use Rattle.causal_explain.proofs.SinceLemmas.{holds_now}
+use Rattle.causal_explain.proofs.StandingLemmas.{tells_one, tells_skipped, holds_now}
 use Rattle.causal_explain.proofs.down_processes.down_in.Goals.{in-Some, in_default}
 use Rattle.causal_explain.proofs.down_processes.down_in.Goals as goal
 

@@ -2,9 +2,7 @@ use Rattle.std.proofs.Common.{◌∙◌, refl, reverse, sym, ap, arith}
 use Rattle.causal_trace.specs.Past.{logs}
 use Rattle.causal_trace.proofs.Lemmas.Instants.{entry_of}
 use Rattle.causal_explain.specs.Inside.Losing.{lost_by}
-use Rattle.causal_explain.proofs.EachLemmas.{tells_one, tells_skipped}
-use Rattle.causal_explain.proofs.LossLemmas.{is_loss}
-use Rattle.causal_explain.proofs.StandingLemmas.{lost_now}
+use Rattle.causal_explain.proofs.StandingLemmas.{tells_one, tells_skipped, is_loss, lost_now}
 use Rattle.causal_explain.proofs.holdings.losses_in.Goals.{in-Some, in_default}
 use Rattle.causal_explain.proofs.holdings.losses_in.Goals as goal
 

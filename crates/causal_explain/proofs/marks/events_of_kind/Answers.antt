@@ -2,7 +2,7 @@ use Rattle.std.proofs.Common.{◌∷◌, List, refl, arith}
 use Rattle.causal_trace.specs.declared.entry.Entry.{Entry}
 use Rattle.causal_trace.specs.Past.{logs}
 use Rattle.causal_trace.specs.State.{past_at}
-use Rattle.causal_trace.proofs.Lemmas.Instants.{past_more, past_length, past_whole}
+use Rattle.causal_trace.proofs.Lemmas.Instants.{past_more, past_length}
 use Rattle.causal_explain.proofs.MarkLemmas.{marks_more, marks_none}
 use Rattle.causal_explain.proofs.StandingLemmas.{stand_none}
 use Rattle.causal_explain.proofs.marks.events_of_kind.Goals as goal
@@ -24,6 +24,3 @@ loop-i-preserved c =
       len = omega (arith, c.push_reserved.ensures.len, c.loop-i.invariant.len);
       room = omega (arith, c.push_reserved.ensures.capacity, c.loop-i.invariant.room);
     }
-
-pub returns : goal.returns
-returns c = grind (arith, past_whole c.args.entries.now)

@@ -1,5 +1,5 @@
 use Rattle.std.proofs.Common.{arith}
-use Rattle.causal_explain.proofs.WalkLemmas.{walk_more, walk_over}
+use Rattle.causal_explain.proofs.WayLemmas.{walk_more, walk_over}
 use Rattle.causal_explain.proofs.paths.path_to.Goals as goal
 
 pub loop-preserved : goal.loop-preserved

@@ -2,7 +2,7 @@ use Rattle.std.proofs.Common.{◌≡◌, ◌≤◌, ◌+◌, List, ℕ}
 use Rattle.std.specs.Prelude.{vec_len, vec_capacity}
 use Rattle.causal_trace.specs.declared.entry.Entry.{Entry}
 use Rattle.causal_explain.specs.Inside.ShortestPaths.{ArePathSteps, IsLeastDistance}
-use Rattle.causal_explain.proofs.WalkLemmas.{IsWalkedBack}
+use Rattle.causal_explain.proofs.WayLemmas.{IsWalkedBack}
 use Rattle.causal_explain.proofs.paths.path_to.Given as goal
 
 -- the path is traced back by as many steps as there were rounds

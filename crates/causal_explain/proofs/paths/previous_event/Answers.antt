@@ -1,7 +1,6 @@
 use Rattle.std.proofs.Common.{None, sym, ◌∙◌, arith}
 use Rattle.std.proofs.lemmas.List.{get_or_read}
-use Rattle.causal_explain.proofs.ComingLemmas.{comes_within}
-use Rattle.causal_explain.proofs.WayLemmas.{step_back}
+use Rattle.causal_explain.proofs.WayLemmas.{comes_within, step_back}
 use Rattle.causal_explain.proofs.paths.previous_event.Goals as goal
 
 pub returns-in-Some-Some : goal.returns-in-Some-Some

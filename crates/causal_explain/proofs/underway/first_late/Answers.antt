@@ -4,7 +4,8 @@ use Rattle.std.proofs.lemmas.Bool.Decides.{eqb_tells}
 use Rattle.std.proofs.lemmas.List.{length-reverse}
 use Rattle.causal_trace.specs.State.{past_at}
 use Rattle.causal_explain.specs.Underway.{is_late}
-use Rattle.causal_explain.proofs.TransitLemmas.{late_at, late_beyond}
+use Rattle.causal_trace.proofs.Lemmas.Instants.{entry_beyond}
+use Rattle.causal_explain.proofs.MarkLemmas.{late_at}
 use Rattle.causal_explain.proofs.underway.first_late.Goals as goal
 use Rattle.causal_explain.proofs.underway.first_late.Goals.{After-arrives_late}
 
@@ -21,4 +22,4 @@ pub returns-then-arrives_late : goal.returns-then-arrives_late
 returns-then-arrives_late c = record { after = omega arith; late = sym (here (goal.at.returns-then-arrives_late c).After-arrives_late) ∙ c.if-arrives_late.true; first = c.loop-j.invariant }
 
 pub returns : goal.returns
-returns c j after = grind (arith, cases_lt j c.loop-j.j, c.loop-j.invariant j after, late_beyond (reverse c.args.entries.now) c.args.end c.args.before c.args.det j, length-reverse c.args.entries.now)
+returns c j after = grind (arith, cases_lt j c.loop-j.j, c.loop-j.invariant j after, entry_beyond (reverse c.args.entries.now) j, length-reverse c.args.entries.now)

@@ -1,6 +1,6 @@
 use Rattle.std.proofs.Common.{◌∙◌, sym, arith}
 use Rattle.causal_trace.proofs.Lemmas.AtInstants.{det_within}
-use Rattle.causal_line.proofs.Firsts.{first_more, first_same}
+use Rattle.causal_line.proofs.EntryCounts.{first_more, first_same}
 use Rattle.causal_line.proofs.deliveries.delivered_dets.Goals.{in-Some+in_ok-insert, in_default}
 use Rattle.causal_line.proofs.deliveries.delivered_dets.Goals as goal
 

@@ -1,4 +1,4 @@
-use Rattle.causal_line.proofs.Firsts.{HasFirst}
+use Rattle.causal_line.proofs.EntryCounts.{HasFirst}
 use Rattle.causal_line.proofs.deliveries.delivered_dets.Given as goal
 
 abbrev pub invariant-loop-k : goal.invariant-loop-k

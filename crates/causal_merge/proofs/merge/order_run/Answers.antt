@@ -1,6 +1,6 @@
 use Rattle.std.proofs.Common.{arith}
 use Rattle.std.proofs.lemmas.Result.{err_from_is_err_and}
-use Rattle.causal_merge.proofs.Wholes.{ordered, header_fault}
+use Rattle.causal_merge.proofs.ReadLemmas.{ordered, header_fault}
 use Rattle.causal_merge.proofs.merge.order_run.Goals as goal
 
 pub returns-clause-ok : goal.returns-clause-ok

@@ -3,7 +3,7 @@ use Rattle.std.proofs.Common.{rules, arith, ap, sym, refl, ◌∙◌, ◌≡◌,
 use Rattle.std.proofs.lemmas.List.{nil_from_length}
 use Rattle.std.specs.Vec.Iter.{into_iter_items}
 use Rattle.std.proofs.lemmas.Result.{err_from_is_err_and}
-use Rattle.causal_merge.proofs.Prefixes.{reverse_step, merged-fault, merged-all}
+use Rattle.causal_merge.proofs.ReadLemmas.{reverse_step, merged-fault, merged-all}
 use Rattle.causal_merge.proofs.merger.merge_events.Goals as goal
 
 pub loop-placed-init : goal.loop-placed-init

@@ -1,6 +1,5 @@
 use Rattle.std.proofs.Common.{arith, rules, append_assoc}
-use Rattle.causal_picture.proofs.Ranges.{range_first}
-use Rattle.causal_picture.proofs.EntryMarks.{each_shown}
+use Rattle.causal_picture.proofs.Shown.{range_first, each_shown}
 use Rattle.causal_picture.proofs.marks.marks_of.Goals as goal
 
 pub loop-position-preserved : goal.loop-position-preserved

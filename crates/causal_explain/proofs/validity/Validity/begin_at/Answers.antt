@@ -1,6 +1,5 @@
 use Rattle.std.proofs.Common.{arith}
-use Rattle.std.specs.Prelude.{not}
-use Rattle.causal_explain.proofs.SinceLemmas.{fails_now, holds_now, since_newest, since_more}
+use Rattle.causal_explain.proofs.StandingLemmas.{fails_now, since_newest, since_more}
 use Rattle.causal_explain.proofs.validity.Validity.begin_at.Goals as goal
 
 pub returns-in-Never : goal.returns-in-Never
@@ -8,6 +7,3 @@ returns-in-Never c test e past is holds h = grind (arith, since_newest, fails_no
 
 pub returns-in-Holds : goal.returns-in-Holds
 returns-in-Holds c test e past is holds h = since_more e past test c.in-Holds.since (rw c.in-Holds.is at h) holds
-
-pub returns-in-Ended : goal.returns-in-Ended
-returns-in-Ended c test e past is holds h = grind (arith, since_newest, holds_now past (λ state. not (test state)) c.in-Ended.span.to)

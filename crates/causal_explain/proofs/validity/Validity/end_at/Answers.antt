@@ -1,16 +1,9 @@
-use Rattle.std.proofs.Common.{sym, ◌∙◌, arith}
+use Rattle.std.proofs.Common.{sym, ◌∙◌}
 use Rattle.std.specs.Prelude.{not}
 use Rattle.std.proofs.lemmas.Bool.{not-true}
 use Rattle.causal_explain.specs.declared.validity.Validity.TheVariants.{Ended}
-use Rattle.causal_explain.proofs.SinceLemmas.{holds_now}
-use Rattle.causal_explain.proofs.StandingLemmas.{ends, still_stands}
+use Rattle.causal_explain.proofs.StandingLemmas.{holds_now, still_stands}
 use Rattle.causal_explain.proofs.validity.Validity.end_at.Goals as goal
-
-pub returns-in-Never : goal.returns-in-Never
-returns-in-Never c test e past is fails h = grind arith
-
-pub returns-in-Holds : goal.returns-in-Holds
-returns-in-Holds c test e past is fails h = grind (arith, ends)
 
 pub returns-in-Ended : goal.returns-in-Ended
 returns-in-Ended c test e past is fails h =

@@ -1,5 +1,5 @@
 use Rattle.std.proofs.Common.{◌∙◌}
-use Rattle.causal_merge.proofs.RefusedEntries.{entry_returned}
+use Rattle.causal_merge.proofs.SendLemmas.{entry_returned}
 use Rattle.causal_merge.proofs.merger.Merger.push.Goals as goal
 
 pub returns-in-Err-try_push-clause-detail : goal.returns-in-Err-try_push-clause-detail

@@ -1,6 +1,6 @@
 use Rattle.std.proofs.Common.{inl, sym, ◌≡◌, ◌∙◌, None, arith}
 use Rattle.std.proofs.lemmas.Grind.{common_steps}
-use Rattle.causal_merge.proofs.MissingHeaders.{none_missing, some_missing}
+use Rattle.causal_merge.proofs.ReadLemmas.{none_missing, some_missing}
 use Rattle.causal_merge.proofs.parsed_files.ParsedFiles.whole_run.Goals as goal
 
 pub returns-in_default-clause-err : goal.returns-in_default-clause-err
