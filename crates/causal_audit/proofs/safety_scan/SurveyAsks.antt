@@ -1,5 +1,5 @@
 -- The search for open deliveries, determinant by determinant.
-use Rattle.causal_audit.proofs.Common.{FinSet, nat_cmp, ℕ, ◌≡◌, ◌+◌, ◌<◌, ◌≤◌, inl, inr, List, [], ◌∷◌, ◌++◌, length, Option, None, Some, refl, sym, ap, subst, ◌∙◌, arith, slice_index, Contains, map-append, All-push, All-nil, Contains-append_left, Contains-append_right, Contains-permutation, IsPermutation, IsPermutation-map, All-permutation, cases_lt, cond-true, cond-false, eq-eqb, ltb-true, ltb-false, Det, Entry, Deliver, deliveries_in, det_at, det_then, instant, instant_length, AreLegalEntries}
+use Rattle.causal_audit.proofs.Common.{FinSet, nat_cmp, ℕ, ◌≡◌, ◌+◌, ◌<◌, ◌≤◌, inl, inr, List, [], ◌∷◌, ◌++◌, length, Option, None, Some, refl, sym, ap, subst, ◌∙◌, arith, slice_index, Contains, map-append, All-push, Contains-append_left, Contains-append_right, Contains-permutation, IsPermutation, IsPermutation-map, All-permutation, cases_lt, cond-true, cond-false, eq-eqb, ltb-true, ltb-false, Det, Entry, Deliver, deliveries_in, det_at, det_then, instant, instant_length, AreLegalEntries}
 use Rattle.std.proofs.lemmas.Bool.{lt-ltb}
 use Rattle.std.proofs.lemmas.List.Elements.{All-append}
 use Rattle.causal_trace.specs.Numbers.{delivered_dets, number_of}
@@ -139,10 +139,6 @@ module _ (scope : SearchScope) (before : List OpenDelivery) (delivery : OpenDeli
     };
     listed = still_told;
   }
-
--- no delivery
-pub nothing_listed : (scope : SearchScope) → scope.end ≤ length scope.run.past → (to : ℕ) → AreOpenBetween scope to to []
-nothing_listed scope within to = grind (arith, All-nil)
 
 -- the part of one more number
 pub one_more_number : (scope : SearchScope) (number to : ℕ) (before after : List OpenDelivery) → HasMore scope before after → ((d : Det) → IsNewest scope d number → AreListedOrSafe scope after d) → AreOpenBetween scope (number + 1) to before → AreOpenBetween scope number to after
