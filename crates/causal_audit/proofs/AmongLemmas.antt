@@ -8,14 +8,6 @@ use Rattle.causal_audit.specs.Inside.Among.{FirstBreachBy, HasNoOrphanBy, IsEarl
 use Rattle.causal_audit.proofs.Lemmas.NumberLemmas.{has_number}
 use Rattle.causal_audit.proofs.DeliveryNumbers.{numbered_later, numbered_below, numbered_one, numbered_some}
 
--- a lower bound a implies the lower bound b if b precedes a
-pub before_least : (a b : Breach) (k t : ℕ) → comes_before b a ≡ true → (a.instant ≤ t) × (a.instant ≡ t → a.delivery ≤ k) → (b.instant ≤ t) × (b.instant ≡ t → b.delivery ≤ k)
-before_least a b k t h later = grind arith
-
--- a lower bound b implies the lower bound a if b does not precede a
-pub not_before_least : (a b : Breach) (k t : ℕ) → comes_before b a ≡ false → (b.instant ≤ t) × (b.instant ≡ t → b.delivery ≤ k) → (a.instant ≤ t) × (a.instant ≡ t → a.delivery ≤ k)
-not_before_least a b k t h later = grind arith
-
 module _ (r : Recording) (f : ℕ) where
   -- the first breach of a delivery is at or before each of its orphans
   first_least : (k : ℕ) (b : Breach) → IsFirstBreach r f k b → (t : ℕ) → HasOrphan r.processes f (instant r.past t) k → (b.instant ≤ t) × (b.instant ≡ t → b.delivery ≤ k)
@@ -32,7 +24,7 @@ module _ (r : Recording) (f : ℕ) where
     record {
       among = Contains-append_right positions more b.delivery other.among;
       first = other.first;
-      least = λ j t listed in_time has. grind (arith, Contains-append_cases positions more j listed, before_least a b j t before, one.least j t, other.least j t);
+      least = λ j t listed in_time has. grind (arith, Contains-append_cases positions more j listed, before, one.least j t, other.least j t);
     },
   )
   chosen positions more end a b low short one other false before = (
@@ -40,7 +32,7 @@ module _ (r : Recording) (f : ℕ) where
     record {
       among = Contains-append_left positions more a.delivery one.among;
       first = one.first;
-      least = λ j t listed in_time has. grind (arith, Contains-append_cases positions more j listed, not_before_least a b j t before, one.least j t, other.least j t);
+      least = λ j t listed in_time has. grind (arith, Contains-append_cases positions more j listed, before, one.least j t, other.least j t);
     },
   )
 

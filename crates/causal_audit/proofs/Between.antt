@@ -1,5 +1,5 @@
 -- The dependents of a delivery after one more entry, and the instants between two changes.
-use Rattle.causal_audit.proofs.Common.{ℕ, ◌≡◌, ◌≢◌, ◌+◌, inl, inr, Bool, true, false, cond, List, ◌∷◌, length, Some, None, refl, sym, ap, subst, ◌∙◌, ◌<◌, ◌≤◌, [], arith, ◌⊎◌, ◌↔◌, ◌&&◌, not, ◌==◌, nat_cmp, FinSet, contains, insert, remove, eq-eqb, ne_eqb, cases_lt, cond-true, cond-false, nat_tests, Pid, Det, Entry, Send, Deliver, Stable, Crash, Restart, Forget, is_down, lane, instant, entry_at, det_at, is_stable, logs, list_has, AreLegalEntries, first_fault, actor, IsEventOf, Reaches, itself, onward, Depends, event_below, reaches_old, depends_restarted, reaches_begins, accepted_forward, delivers_up, HasOrphan, instants_stay, one_more_instant, last_instant, det_then, det_within, instant_length}
+use Rattle.causal_audit.proofs.Common.{ℕ, ◌≡◌, ◌≢◌, ◌+◌, inl, inr, Bool, true, false, cond, List, ◌∷◌, length, Some, None, refl, sym, ap, ◌∙◌, ◌<◌, ◌≤◌, [], arith, ◌⊎◌, ◌↔◌, ◌&&◌, not, ◌==◌, nat_cmp, FinSet, contains, insert, remove, eq-eqb, ne_eqb, cases_lt, cond-true, cond-false, nat_tests, Pid, Det, Entry, Crash, Restart, is_down, lane, instant, entry_at, det_at, is_stable, logs, list_has, AreLegalEntries, first_fault, actor, IsEventOf, Reaches, itself, onward, Depends, event_below, reaches_old, depends_restarted, reaches_begins, accepted_forward, delivers_up, HasOrphan, instants_stay, one_more_instant, last_instant, det_then, det_within, instant_length}
 use Rattle.causal_audit.specs.Inside.DeliveryStates.{AreDependents, IsNextReached, IsDeliveryState}
 use Rattle.causal_audit.proofs.Legal.{sends_up}
 use Rattle.causal_holders.proofs.Lemmas.Sets.{inserted, removed}
@@ -22,6 +22,10 @@ reaches_more e past i k (onward {j} r d) = onward (reaches_more e past i j r) (p
 -- the entry does not crash or restart p
 abbrev pub IsNoTurn : Entry → List Entry → ℕ → Type 0
 IsNoTurn e past p = (is_down (e ∷ past) p ≡ is_down past p) × (lane (e ∷ past) p ≡ lane past p)
+
+-- an entry that is not a crash or restart preserves the down processes and the lane of each process
+pub no_turn_stays : (e : Entry) (past : List Entry) → is_transition e ≡ false → (p : ℕ) → IsNoTurn e past p
+no_turn_stays e past h p = grind arith
 
 -- a process keeps its dependences while it does not crash or restart
 pub depends_more : (e : Entry) (past : List Entry) (k p : ℕ) → IsNoTurn e past p → Depends past k p → Depends (e ∷ past) k p
@@ -50,46 +54,28 @@ module _ (n : ℕ) (e : Entry) (past : List Entry) (k : ℕ) (formed : AreLegalE
 
 -- as above, for an entry that is given by an equation
 module _ (n : ℕ) (x : Entry) (past : List Entry) (k : ℕ) (formed : AreLegalEntries n (x ∷ past)) (reached : Bool) (tells : IsNextReached past x k reached) (s : FinSet nat_cmp) (are : AreDependents past k s) where
-  abbrev After : Entry → FinSet nat_cmp → Type 0
-  After y t = AreLegalEntries n (y ∷ past) → IsNextReached past y k reached → AreDependents (y ∷ past) k t
+  -- a reached event
+  pub reached_event : (y : Entry) (w : ℕ) → x ≡ y → actor y ≡ Some w → reached ≡ true → AreDependents (x ∷ past) k (insert s w)
+  reached_event y w is acts hit =
+      let of : actor x ≡ Some w = ap actor is ∙ acts in
+      one_dependent_more n x past k formed s are w of (grind (arith, sends_up, delivers_up)) (λ p. grind arith) ((tells w of).0 hit)
 
-  at_entry : (y : Entry) (t : FinSet nat_cmp) → x ≡ y → After y t → AreDependents (x ∷ past) k t
-  at_entry y t is h = subst (λ z. After z t) (sym is) h formed tells
-
-  pub sent_reached : (from to : Pid) (ssn : ℕ) → x ≡ Send from to ssn → reached ≡ true → AreDependents (x ∷ past) k (insert s from.0)
-  sent_reached from to ssn is hit = grind (arith, at_entry (Send from to ssn), one_dependent_more, sends_up)
-
-  pub delivered_reached : (to : Pid) (send rsn : ℕ) (listed : List Det) → x ≡ Deliver to send rsn listed → reached ≡ true → AreDependents (x ∷ past) k (insert s to.0)
-  delivered_reached to send rsn listed is hit = grind (arith, at_entry (Deliver to send rsn listed), one_dependent_more, delivers_up)
-
-  pub sent_unreached : (from to : Pid) (ssn : ℕ) → x ≡ Send from to ssn → reached ≡ false → AreDependents (x ∷ past) k s
-  sent_unreached from to ssn is missed = grind (arith, at_entry (Send from to ssn), same_dependents)
-
-  pub delivered_unreached : (to : Pid) (send rsn : ℕ) (listed : List Det) → x ≡ Deliver to send rsn listed → reached ≡ false → AreDependents (x ∷ past) k s
-  delivered_unreached to send rsn listed is missed = grind (arith, at_entry (Deliver to send rsn listed), same_dependents)
-
-  pub stored : (det : Det) → x ≡ Stable det → AreDependents (x ∷ past) k s
-  stored det is = grind (arith, at_entry (Stable det), same_dependents)
-
-  pub forgotten : (who : Pid) (listed : List Det) → x ≡ Forget who listed → AreDependents (x ∷ past) k s
-  forgotten who listed is = grind (arith, at_entry (Forget who listed), same_dependents)
+  -- an entry that is not a crash or restart, and not an event that is reached
+  pub unreached : (y : Entry) → x ≡ y → is_transition y ≡ false → (actor y ≡ None) ⊎ (reached ≡ false) → AreDependents (x ∷ past) k s
+  unreached y is quiet missed = grind (arith, same_dependents, no_turn_stays)
 
   pub crashed : (who : Pid) → x ≡ Crash who → AreDependents (x ∷ past) k (remove s who.0)
-  crashed who is = grind (arith, at_entry (Crash who), one_dependent_less, eq-eqb who.0 who.0 refl)
+  crashed who is = rw is (grind (arith, one_dependent_less n (Crash who) past k (rw is at formed) s are who.0 refl, eq-eqb who.0 who.0 refl))
 
   pub restarted : (who : Pid) (listed : List Det) → x ≡ Restart who listed → AreDependents (x ∷ past) k (remove s who.0)
   restarted who listed is =
-      at_entry (Restart who listed) _ is (λ legal told. one_dependent_less n (Restart who listed) past k legal s are who.0 refl
+      rw is (one_dependent_less n (Restart who listed) past k (rw is at formed) s are who.0 refl
       (λ p apart. let other = ne_eqb who.0 p (λ h. apart (sym h)) in (ap (λ b. not b && is_down past p) other, ap (λ b. cond b (lane past p + 1) (lane past p)) other))
       (λ d. depends_restarted (Restart who listed) past k who.0 (ap (λ b. cond b (lane past who.0 + 1) (lane past who.0)) (eq-eqb who.0 who.0 refl)) refl d))
 
 -- ==== the instants between two changes of a delivery's state agree
 
 -- ---- a quiet entry changes nothing
-
--- an entry that is not a crash or restart preserves the down processes and the lane of each process
-pub no_turn_stays : (e : Entry) (past : List Entry) → is_transition e ≡ false → (p : ℕ) → IsNoTurn e past p
-no_turn_stays e past h p = grind arith
 
 -- the logs that contain a determinant that it does not mention
 pub logs_stay : (e : Entry) (past : List Entry) (d : Det) → is_transition e ≡ false → list_has (mentioned_dets e) d ≡ false → (p : ℕ) → logs past p d ≡ logs (e ∷ past) p d
@@ -110,22 +96,11 @@ pub next_entry : (past : List Entry) (v : ℕ) → v < length past → (e : Entr
 next_entry [] v below = absurd (omega (arith, below))
 next_entry (e ∷ past) v below =
     elim (cases_lt v (length past)) [
-      | inl older ↦
-          let found = next_entry past v older in (
-            found.0,
-            cond-false (v == length past) (Some e) (entry_at past v) (ne_eqb v (length past) (λ is. omega (arith, older, is))) ∙ found.1,
-            instants_stay e past (v + 1) (omega (arith, older)) ∙ found.2 ∙ ap (λ x. found.0 ∷ x) (sym (instants_stay e past v (omega (arith, older)))),
-          )
+      | inl older ↦ let found = next_entry past v older in (found.0, grind (arith, cond-false, ne_eqb v (length past), found.1), grind (arith, instants_stay e past (v + 1), instants_stay e past v, found.2))
       | inr newest ↦
-          let at : v ≡ length past = omega (arith, newest, below) in (
-            e,
-            cond-true (v == length past) (Some e) (entry_at past v) (eq-eqb v (length past) at),
-            ap (λ x. instant (e ∷ past) (x + 1)) at ∙ one_more_instant e past ∙ ap (λ x. e ∷ x) (sym (ap (λ x. instant (e ∷ past) x) at ∙ instants_stay e past (length past) (omega arith) ∙ last_instant past)),
-          )
+          let at : v ≡ length past = omega (arith, newest, below) in
+          (e, cond-true (v == length past) (Some e) (entry_at past v) (eq-eqb v (length past) at), rw at (grind (arith, one_more_instant e past, instants_stay e past (length past), last_instant past)))
     ]
-
-pub agree_then : (k : ℕ) (d : Det) (one two three : List Entry) → SameDeliveryState one two k d → SameDeliveryState two three k d → SameDeliveryState one three k d
-agree_then k d one two three a b = grind arith
 
 pub agree_back : (k : ℕ) (d : Det) (one other : List Entry) → SameDeliveryState one other k d → SameDeliveryState other one k d
 agree_back k d one other a = grind arith

@@ -1,5 +1,5 @@
 -- Facts about the entries of a well-formed run.
-use Rattle.causal_audit.proofs.Common.{ℕ, ◌≡◌, ◌<◌, inl, inr, true, false, cond, List, [], ◌∷◌, length, Option, Some, None, refl, arith, ◌==◌, option_map_or, false≢true, eqb-true, Pid, Det, Entry, Send, Deliver, is_down, lane, listed_in, listed_by, entry_at, is_send_to, is_sent_to, det_of, det_at, first_fault, AreLegalEntries, actor, is_delivery_of, IsEventOf, Delivers, row_fails}
+use Rattle.causal_audit.proofs.Common.{ℕ, ◌≡◌, ◌<◌, inl, inr, true, false, List, [], ◌∷◌, length, Option, Some, None, refl, arith, option_map_or, false≢true, eqb_tells, Pid, Det, Entry, Send, Deliver, is_down, lane, listed_in, listed_by, is_send_to, is_sent_to, det_of, det_at, first_fault, AreLegalEntries, actor, is_delivery_of, IsEventOf, Delivers, row_fails}
 use Rattle.causal_audit.specs.Numbers.{is_delivery}
 use Rattle.causal_trace.specs.Rows.{rows_within, refusal_rows}
 use Rattle.causal_trace.specs.declared.fault.TraceFault.TheVariants.{NotUp}
@@ -39,10 +39,10 @@ sends_to past p e h = absurd (false≢true h)
 pub sent_event : (past : List Entry) (send p : ℕ) → is_sent_to past send p ≡ true → (q : ℕ) × (l : ℕ) × IsEventOf past send q l
 sent_event [] send p h = absurd (false≢true h)
 sent_event (e ∷ past) send p h =
-    elim (send == length past) as (λ b. (send == length past) ≡ b → option_map_or (is_send_to p) (cond b (Some e) (entry_at past send)) false ≡ true → (q : ℕ) × (l : ℕ) × IsEventOf (e ∷ past) send q l) [
-      | true ↦ λ here k. let found = sends_to past p e k in (found.0, lane past found.0, inr (eqb-true send (length past) here, found.1, refl))
-      | false ↦ λ there k. let found = sent_event past send p k in (found.0, found.1, inl found.2)
-    ] refl h
+    elim (eqb_tells send (length past)) [
+      | inl here ↦ let found = sends_to past p e (rw here.0 at h) in (found.0, lane past found.0, inr (here.1, found.1, refl))
+      | inr there ↦ let found = sent_event past send p (rw there.0 at h) in (found.0, found.1, inl found.2)
+    ]
 
 -- an entry that delivers is an event
 delivering : (i : ℕ) (e : Entry) → is_delivery_of i e ≡ true → (p : ℕ) × (actor e ≡ Some p)
@@ -69,7 +69,7 @@ det_delivers past e d h = absurd (let k : None ≡ Some d = h in cc)
 pub delivery_event : (past : List Entry) (k : ℕ) (d : Det) → det_at past k ≡ Some d → (p : ℕ) × (l : ℕ) × IsEventOf past k p l
 delivery_event [] k d h = absurd (let e : None ≡ Some d = h in cc)
 delivery_event (e ∷ past) k d h =
-    elim (k == length past) as (λ b. (k == length past) ≡ b → cond b (det_of past e) (det_at past k) ≡ Some d → (p : ℕ) × (l : ℕ) × IsEventOf (e ∷ past) k p l) [
-      | true ↦ λ here at. let found = det_delivers past e d at in (found.0, lane past found.0, inr (eqb-true k (length past) here, found.1, refl))
-      | false ↦ λ there at. let found = delivery_event past k d at in (found.0, found.1, inl found.2)
-    ] refl h
+    elim (eqb_tells k (length past)) [
+      | inl here ↦ let found = det_delivers past e d (rw here.0 at h) in (found.0, lane past found.0, inr (here.1, found.1, refl))
+      | inr there ↦ let found = delivery_event past k d (rw there.0 at h) in (found.0, found.1, inl found.2)
+    ]

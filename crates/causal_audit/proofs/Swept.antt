@@ -1,5 +1,5 @@
 -- The deliveries that one more entry may newly orphan.
-use Rattle.causal_audit.proofs.Common.{ℕ, zero, suc, ◌≡◌, ◌<◌, inl, inr, true, false, List, [], ◌∷◌, length, Some, None, refl, sym, subst, ◌∙◌, arith, ◌≤◌, Bool, ◌⊎◌, ◌&&◌, ◌||◌, ◌==◌, not, false≢true, cases_lt, eqb-true, eq-eqb, or_parts, false_from_ne_true, cond-true, cond-false, ne_eqb, nat_tests, Pid, Det, Entry, Send, Deliver, Stable, Crash, Restart, Forget, is_down, lane, is_stable, logs, list_has, det_at, det_of, AreLegalEntries, actor, is_delivery_of, IsEventOf, in_order, by_message, Reaches, itself, onward, Depends, event_below, reaches_old, reaches_newest, ReachesNewest, is_newest, in_lane, through_message, reaches_begins, accepted_forward, count_below, count_below-within, HasOrphan}
+use Rattle.causal_audit.proofs.Common.{ℕ, zero, suc, ◌≡◌, ◌<◌, inl, inr, true, false, List, [], ◌∷◌, length, Some, None, refl, sym, subst, ◌∙◌, arith, ◌≤◌, Bool, ◌⊎◌, ◌&&◌, ◌==◌, false≢true, cases_Bool, cases_lt, eqb-true, eq-eqb, or_parts, cond-true, cond-false, ne_eqb, nat_tests, Pid, Det, Entry, Send, Deliver, Stable, Crash, Restart, Forget, is_down, lane, is_stable, logs, list_has, det_at, det_of, AreLegalEntries, actor, is_delivery_of, IsEventOf, in_order, by_message, Reaches, itself, onward, Depends, event_below, reaches_old, reaches_newest, ReachesNewest, is_newest, in_lane, through_message, reaches_begins, accepted_forward, count_below, count_below-within, HasOrphan}
 use Rattle.causal_audit.proofs.Between.{reaches_more, IsNoTurn, depends_before}
 use Rattle.causal_audit.specs.Laws.{down_or_holding}
 use Rattle.causal_audit.specs.NoRelease.{may_release}
@@ -45,14 +45,7 @@ no_event_reached e past k i none quiet is (onward {j} r (by_message h)) = grind 
 -- if a property is decidable for each number below a bound, it is decidable whether some number has it
 pub some_below : (P : ℕ → Type 0) (n : ℕ) → ((j : ℕ) → j < n → Known (P j)) → Known ((j : ℕ) × (j < n) × P j)
 some_below P zero known = inr (λ some. absurd (omega (arith, some.1)))
-some_below P (suc n) known = elim (either_known (known n (omega arith)) (some_below P n (λ j below. known j (omega (arith, below))))) [
-  | inl (inl here) ↦ inl (n, omega arith, here)
-  | inl (inr some) ↦ inl (some.0, omega (arith, some.1), some.2)
-  | inr none ↦ inr (λ some. elim (cases_lt some.0 n) [
-    | inl early ↦ none (inr (some.0, early, some.2))
-    | inr late ↦ let same : some.0 ≡ n = omega (arith, late, some.1) in none (inl (subst P same some.2))
-  ])
-]
+some_below P (suc n) known = grind (arith, known n (omega arith), some_below P n (λ j below. known j (omega (arith, below))))
 
 module _ (n : ℕ) (past : List Entry) (k : ℕ) (before : (j : ℕ) → j < length past → Known (Reaches past k j)) where
   mate_known : (p : ℕ) → Known ((j : ℕ) × (j < length past) × (IsEventOf past j p (lane past p) × Reaches past k j))
@@ -94,16 +87,11 @@ reach_known n (e ∷ past) k i formed below = elim (cases_lt i (length past)) [
 -- whether a process depends on a delivery
 pub depends_known : (n : ℕ) (past : List Entry) (k p : ℕ) → AreLegalEntries n past → Known (Depends past k p)
 depends_known n past k p formed =
-    known_as (both_known (known_bool (is_down past p) false) (mate_known n past k (λ j h. reach_known n past k j formed h) p))
-    (λ h. record { up = h.0; event = h.1.0; present = h.1.2.0; reached = h.1.2.1 })
-    (λ d. (d.up, (d.event, event_below past d.event p (lane past p) d.present, (d.present, d.reached))))
+    grind (arith, known_bool (is_down past p) false, mate_known n past k (λ j h. reach_known n past k j formed h) p, event_below)
 
 -- ==== the deliveries that one more entry may newly orphan
 
 -- ---- facts before the entry, from facts after it
-
-stable_fewer : (e : Entry) (past : List Entry) (d : Det) → is_stable (e ∷ past) d ≡ false → is_stable past d ≡ false
-stable_fewer e past d h = false_from_ne_true (is_stable past d) (λ s. false≢true (sym h ∙ stable_more e past d s))
 
 gone_fewer : (n f : ℕ) (e : Entry) (past : List Entry) (d : Det) → may_release e ≡ false → count_below n (down_or_holding (e ∷ past) d) ≤ f → count_below n (down_or_holding past d) ≤ f
 gone_fewer n f e past d departures few = omega (arith, few, count_below-within n (down_or_holding past d) (down_or_holding (e ∷ past) d) (λ p _ h. gone_more e past d p departures h))
@@ -133,37 +121,9 @@ sent_before n past k d from to ssn p formed at who (in_lane j event reach) = gri
 pub no_actor : (n : ℕ) (e : Entry) (past : List Entry) (k p : ℕ) → AreLegalEntries n (e ∷ past) → actor e ≡ None → IsNoTurn e past p → Depends (e ∷ past) k p → Depends past k p
 no_actor n e past k p formed none same depends = elim (depends_before n e past k p formed same depends) [ inl old ↦ old | inr new ↦ absurd (let x : None ≡ Some p = sym none ∙ new.0 in cc) ]
 
-pub stored : (n f : ℕ) (past : List Entry) (k : ℕ) (d det : Det) → AreLegalEntries n (Stable det ∷ past) → det_at (Stable det ∷ past) k ≡ Some d
-    → HasOrphan n f (Stable det ∷ past) k → HasOrphan n f past k
-stored n f past k d det formed at list_has = grind (arith, exposed, orphan_before, no_actor, stable_fewer)
-
-held_by_other : (w b : Bool) → w ≡ false → (not w && b) ≡ false → b ≡ false
-held_by_other w b h k = grind (arith, nat_tests)
-
-pub crashed : (n f : ℕ) (past : List Entry) (k : ℕ) (d : Det) (who : Pid) → AreLegalEntries n (Crash who ∷ past) → det_at (Crash who ∷ past) k ≡ Some d
-    → HasOrphan n f (Crash who ∷ past) k → HasOrphan n f past k
-crashed n f past k d who formed at list_has = grind (arith, exposed, orphan_before, no_actor, gone_fewer, held_by_other)
-
 -- ---- a forgetting that does not list the determinant
 
-unforgotten : (a w h b : Bool) → h ≡ false → (a || b) ≡ true → (a || (not (w && h) && b)) ≡ true
-unforgotten a w h b miss k = grind (arith, nat_tests)
-
-not_held : (w h b : Bool) → h ≡ false → (not (w && h) && b) ≡ false → b ≡ false
-not_held w h b miss k = grind (arith, nat_tests)
-
-pub forgotten : (n f : ℕ) (past : List Entry) (k : ℕ) (d : Det) (who : Pid) (listed : List Det) → AreLegalEntries n (Forget who listed ∷ past) → det_at (Forget who listed ∷ past) k ≡ Some d
-    → list_has listed d ≡ false → HasOrphan n f (Forget who listed ∷ past) k → HasOrphan n f past k
-forgotten n f past k d who listed formed at miss orphaned = grind (arith, exposed, orphan_before, no_actor, count_below-within, unforgotten, not_held)
-
 -- ---- a restart that lists the determinant
-
-relisted : (w a h b : Bool) → h ≡ true → (a || b) ≡ true → ((not w && a) || ((w && h) || b)) ≡ true
-relisted w a h b hit k = grind (arith, nat_tests)
-
-pub restarted : (n f : ℕ) (past : List Entry) (k : ℕ) (d : Det) (who : Pid) (listed : List Det) → AreLegalEntries n (Restart who listed ∷ past) → det_at (Restart who listed ∷ past) k ≡ Some d
-    → list_has listed d ≡ true → HasOrphan n f (Restart who listed ∷ past) k → HasOrphan n f past k
-restarted n f past k d who listed formed at hit orphaned = grind (arith, exposed, orphan_before, no_actor, count_below-within, relisted)
 
 -- ---- a delivery: it had an orphan before, or the receiver newly depends on it
 
@@ -183,18 +143,15 @@ pub sweep_law : NewOrphansLaw
 sweep_law n f (Send from to ssn) past k d formed at orphaned =
     let e = Send from to ssn in
     let x = exposed n f (e ∷ past) k d at orphaned in
-    let was : Depends past k x.orphan = elim (depends_before n e past k x.orphan formed (refl, refl) x.depends) [
-      | inl old ↦ old
-      | inr new ↦ sent_before n past k d from to ssn x.orphan formed (λ _. at) new.0 (reaches_newest e past k x.orphan (length past) (accepted_forward n (e ∷ past) formed) refl new.0 new.1)
-    ] in
-    inl (orphan_before n f e past k d at x.orphan x.process was x.unstable x.few x.without)
+    let new = reaches_newest e past k x.orphan (length past) (accepted_forward n (e ∷ past) formed) refl in
+    grind (arith, depends_before n e past k x.orphan formed (refl, refl) x.depends, sent_before n past k d from to ssn x.orphan formed (λ _. at), new, orphan_before n f e past k d at x.orphan x.process, x.unstable, x.few, x.without)
 sweep_law n f (Deliver to send rsn listed) past k d formed at orphaned =
     let x = exposed n f (Deliver to send rsn listed ∷ past) k d at orphaned in
     grind (arith, x.depends, depends_known n past k to.0 formed.0, delivered n f past k d to send rsn listed formed at x.orphan x.process x.depends x.unstable x.few x.without)
-sweep_law n f (Stable det) past k d formed at orphaned = inl (stored n f past k d det formed at orphaned)
-sweep_law n f (Crash who) past k d formed at orphaned = inl (crashed n f past k d who formed at orphaned)
-sweep_law n f (Restart who listed) past k d formed at orphaned = grind (arith, restarted)
-sweep_law n f (Forget who listed) past k d formed at orphaned = grind (arith, forgotten)
+sweep_law n f (Stable det) past k d formed at orphaned = grind (arith, exposed, orphan_before, no_actor, stable_more, cases_Bool (is_stable past d))
+sweep_law n f (Crash who) past k d formed at orphaned = grind (arith, exposed, orphan_before, no_actor, gone_fewer, nat_tests)
+sweep_law n f (Restart who listed) past k d formed at orphaned = grind (arith, cases_Bool (list_has listed d), exposed, orphan_before, no_actor, count_below-within, nat_tests)
+sweep_law n f (Forget who listed) past k d formed at orphaned = grind (arith, cases_Bool (list_has listed d), exposed, orphan_before, no_actor, count_below-within, nat_tests)
 
 -- if a delivery entry newly orphans it, the receiver is the only orphan
 pub one_new_orphan : OneNewOrphan

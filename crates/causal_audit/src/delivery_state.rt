@@ -69,7 +69,6 @@ pub fn stable_after(stable: bool, entry: &Entry, mentioned: bool) -> bool
 
 /// Returns the processes that depend on the delivery after one more entry. `reached`: the delivery reaches the entry.
 /// An event that is reached adds its process; a crash or restart removes its process.
-#[tactic(auto, using(crate::proofs::Between::sent_unreached, crate::proofs::Between::delivered_unreached))]
 fn dependents_after(dependents: Holders, entry: &Entry, reached: bool) -> Holders
     ensures { ShowsDependentsAfter entry.now reached dependents result }
 {

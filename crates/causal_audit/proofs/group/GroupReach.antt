@@ -1,9 +1,10 @@
 -- The deliveries of a group that reach the entries of a walk, with one more entry.
-use Rattle.causal_audit.proofs.Common.{ℕ, ◌≡◌, ◌≢◌, ◌+◌, ◌-◌, ◌<◌, ◌≤◌, inr, true, false, cond, List, ◌∷◌, length, Some, None, entry_at, message_sent, refl, sym, ap, subst, ◌∙◌, arith, ◌↔◌, ◌⊎◌, ◌||◌, ◌&&◌, not, set, nat_cmp, nat_cmp_total, FinSet, contains, empty, len, remove, union, difference, contains-empty, contains-union, contains-difference, false≢true, eq-eqb, ne_eqb, eqb_tells, nat_tests, get_or-set_same, get_or-set_other, Pid, Det, Entry, Send, Deliver, Stable, Crash, Restart, Forget, det_at, is_down, lane, AreLegalEntries, actor, Reaches, Depends, accepted_forward, delivers_sent, delivers_up, event_below, reaches_begins, reaches_old, depends_restarted}
+use Rattle.causal_audit.proofs.Common.{ℕ, ◌≡◌, ◌≢◌, ◌+◌, ◌-◌, ◌<◌, ◌≤◌, inr, true, false, cond, List, ◌∷◌, length, Some, None, entry_at, message_sent, refl, sym, ap, subst, ◌∙◌, arith, ◌↔◌, ◌⊎◌, ◌||◌, ◌&&◌, not, set, nat_cmp, nat_cmp_total, FinSet, contains, empty, len, remove, union, difference, contains-empty, contains-union, contains-difference, false≢true, eq-eqb, ne_eqb, eqb_tells, nat_tests, get_or-set_same, get_or-set_other, Pid, Det, Entry, Send, Deliver, Crash, Restart, det_at, is_down, lane, AreLegalEntries, actor, Reaches, Depends, accepted_forward, delivers_sent, delivers_up, event_below, reaches_begins, reaches_old, depends_restarted}
 use Rattle.causal_audit.specs.declared.group.reach.ReachSets.{ReachSets}
 use Rattle.causal_audit.specs.Inside.Group.Walk.{HasRow, AreNewlyReached, RowsShowReach, AreReachingPlaces, row, row_of}
 use Rattle.causal_audit.specs.Inside.DeliveryStates.{IsNextReached}
-use Rattle.causal_audit.proofs.Between.{IsNoTurn, reaches_more, depends_more, depends_before}
+use Rattle.causal_audit.specs.Quiet.{is_transition}
+use Rattle.causal_audit.proofs.Between.{IsNoTurn, no_turn_stays, reaches_more, depends_more, depends_before}
 use Rattle.causal_audit.proofs.Legal.{sent_is}
 use Rattle.causal_audit.proofs.Steps.{entry_cases, entry_within}
 use Rattle.causal_audit.proofs.by_clock.ReachedEntries.{send_tells, delivery_tells}
@@ -13,7 +14,7 @@ use Rattle.causal_holders.proofs.Lemmas.Sets.{removed, some_member}
 use Rattle.std.specs.FinSet.{len-remove}
 use Rattle.causal_trace.proofs.Lemmas.RunProcesses.{crash_inside, restart_inside}
 
-abbrev Sets : Type 0
+abbrev pub Sets : Type 0
 Sets = List (FinSet nat_cmp)
 
 -- the empty set contains no number
@@ -67,13 +68,9 @@ module _ (n : ℕ) (past : List Entry) (start k j : ℕ) (rows present : Sets) (
   idle : (e : Entry) → AreLegalEntries n (e ∷ past) → actor e ≡ None → message_sent e ≡ None → (now : Sets) → ((p : ℕ) → (contains (row now p) j ≡ true) ↔ Depends (e ∷ past) k p) → RowsShowReach (e ∷ past) start k j rows now × AreNewlyReached past e k j empty
   idle e formed none unsent now depends = grind (arith, behind_same e formed unsent, none_in)
 
-  -- an entry that writes to stable storage
-  pub stored : (det : Det) → AreLegalEntries n (Stable det ∷ past) → RowsShowReach (Stable det ∷ past) start k j rows present × AreNewlyReached past (Stable det) k j empty
-  stored det formed = idle (Stable det) formed refl refl present (depends_same (Stable det) formed (λ p. (refl, refl)) (λ p of. absurd (let x : None ≡ Some p = of in cc)))
-
-  -- a forgetting
-  pub forgotten : (who : Pid) (listed : List Det) → AreLegalEntries n (Forget who listed ∷ past) → RowsShowReach (Forget who listed ∷ past) start k j rows present × AreNewlyReached past (Forget who listed) k j empty
-  forgotten who listed formed = idle (Forget who listed) formed refl refl present (depends_same (Forget who listed) formed (λ p. (refl, refl)) (λ p of. absurd (let x : None ≡ Some p = of in cc)))
+  -- one that is not a crash or restart either
+  pub passed : (e : Entry) → AreLegalEntries n (e ∷ past) → actor e ≡ None → message_sent e ≡ None → is_transition e ≡ false → RowsShowReach (e ∷ past) start k j rows present × AreNewlyReached past e k j empty
+  passed e formed none unsent quiet = idle e formed none unsent present (depends_same e formed (no_turn_stays e past quiet) (λ p of. absurd (let x : None ≡ Some p = sym none ∙ of in cc)))
 
   -- a crash
   pub crashed : (who : Pid) → n ≤ length present → AreLegalEntries n (Crash who ∷ past) → RowsShowReach (Crash who ∷ past) start k j rows (set present who.0 empty) × AreNewlyReached past (Crash who) k j empty
@@ -111,12 +108,9 @@ module _ (n : ℕ) (past : List Entry) (start k j : ℕ) (rows present : Sets) (
         (delivery_tells n past k (λ p. contains (row present p) j) told.depends (contains own j) (contains brought j) (λ h. sym (is_own.0 h), λ is. is_own.1 (sym is)) to send rsn listed
         (is_brought at_send.0 at_send.1 at_send.2 at_send.3) formed)
 
-    depends_now : Reaches (e ∷ past) k (length past) → Depends (e ∷ past) k to.0
-    depends_now reach = record { up = delivers_up n past to send rsn listed formed.1; event = length past; present = inr (refl, refl, refl); reached = reach }
-
     -- after the delivery its receiver depends on the deliveries that reach it
     depends_set : to.0 < length present → (p : ℕ) → (contains (row (set present to.0 hit) p) j ≡ true) ↔ Depends (e ∷ past) k p
-    depends_set inside p = grind (arith, get_or-set_same, get_or-set_other, depends_more e past k p, depends_before n e past k p, tells p, depends_now, in_hit, nat_tests)
+    depends_set inside p = grind (arith, get_or-set_same, get_or-set_other, depends_more e past k p, depends_before n e past k p, tells p, delivers_up n past to send rsn listed formed.1, in_hit, nat_tests)
 
     abbrev pub newly : FinSet nat_cmp
     newly = difference hit (row present to.0)
@@ -130,16 +124,6 @@ module _ (n : ℕ) (past : List Entry) (start k j : ℕ) (rows present : Sets) (
         complete = λ p of reach. grind (arith, contains-difference nat_cmp_total hit (row present to.0) j, tells p of, told.depends to.0, nat_tests);
       },
     )
-
--- as above, for an entry that is given by an equation
-pub seen : (x y : Entry) (t start : ℕ) (rows present after now : Sets) (own newly : FinSet nat_cmp) → x ≡ y
-    → ((n : ℕ) (past : List Entry) (k j : ℕ) (d : Det) → n ≤ 256 → AreLegalEntries n (y ∷ past) → length past ≡ t → (k ≡ t → det_at (y ∷ past) k ≡ Some d) → (contains own j ≡ true) ↔ (k ≡ t)
-    → RowsShowReach past start k j rows present → RowsShowReach (y ∷ past) start k j after now × AreNewlyReached past y k j newly)
-    → (n : ℕ) (past : List Entry) (k j : ℕ) (d : Det) → n ≤ 256 → AreLegalEntries n (x ∷ past) → length past ≡ t → (k ≡ t → det_at (x ∷ past) k ≡ Some d) → (contains own j ≡ true) ↔ (k ≡ t)
-    → RowsShowReach past start k j rows present → RowsShowReach (x ∷ past) start k j after now × AreNewlyReached past x k j newly
-seen x y t start rows present after now own newly same sees n past k j d few formed long at is_own is =
-    subst (λ z. AreLegalEntries n (z ∷ past) → (k ≡ t → det_at (z ∷ past) k ≡ Some d) → RowsShowReach (z ∷ past) start k j after now × AreNewlyReached past z k j newly) (sym same)
-    (λ legal made. sees n past k j d few legal long made is_own is) formed at
 
 -- no delivery of the group reaches a send before the walk
 pub told_before : (reach : ReachSets) (v : ℕ) → v < reach.start → AreReachingPlaces reach v empty

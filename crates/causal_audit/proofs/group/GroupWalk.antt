@@ -17,7 +17,7 @@ use Rattle.causal_audit.proofs.Between.{depends_before, stable_stays}
 use Rattle.causal_audit.proofs.Lemmas.OrphansByCounts.{exposed, gone_orphan}
 use Rattle.causal_audit.proofs.Swept.{sweep_law, one_new_orphan}
 use Rattle.causal_audit.proofs.NoOrphanSoFar.{accepted_next, first_breach_is}
-use Rattle.causal_audit.proofs.group.GroupReach.{left_in, left_out, none_in}
+use Rattle.causal_audit.proofs.group.GroupReach.{Sets, left_in, left_out, none_in}
 use Rattle.causal_trace.proofs.Lemmas.AtInstants.{up_to_next}
 use Rattle.causal_audit.proofs.group.OpenPositions.{position, zero}
 use Rattle.causal_audit.specs.declared.group.buffers.WalkBuffers.{WalkBuffers}
@@ -25,9 +25,6 @@ use Rattle.causal_audit.specs.declared.group.reach.ReachSets.{ReachSets}
 use Rattle.causal_audit.proofs.Shown.{parts}
 use Rattle.causal_holders.proofs.Lemmas.Sets.{inserted}
 use Rattle.causal_trace.specs.Laws.{is_crash}
-
-abbrev Sets : Type 0
-Sets = List (FinSet nat_cmp)
 
 -- ==== the state of the group's deliveries after one more entry
 
@@ -40,14 +37,9 @@ module _ (r : Recording) (candidates : List OpenDelivery) (s : WalkStep) (step :
 
   -- the first breach by the next instant is the breach at that instant
   pub first_here : (f k : ℕ) (found : Option Breach) → HasNoOrphanBy r f k s.t → BreachAt r.processes f (instant r.past (s.t + 1)) k (s.t + 1) found → FirstBreachBy r f (s.t + 1) k found
-  first_here f k None none at = λ u low list_has. up_to_next (λ u. HasOrphan r.processes f (instant r.past u) k → ⊥) s.t none at u low list_has
-  first_here f k (Some b) none at = (omega (arith, at.0), first_breach_is r f k s.t b step.below none at.0 at.1 at.2)
+  first_here f k found none at = grind (arith, up_to_next (λ u. HasOrphan r.processes f (instant r.past u) k → ⊥) s.t none, first_breach_is r f k s.t)
 
 -- ---- the copies of a determinant
-
--- a delivery to a process that logs d already does not change them
-copies_held : (e : Entry) (past : List Entry) (d : Det) (copies : DetCopies) → IsDeliveredTo e past d → AreDetCopies past d copies → AreDetCopies (e ∷ past) d copies
-copies_held e past d copies held are = grind (arith, nat_tests)
 
 -- who holds a determinant is unchanged by an entry that is not a crash and does not mention it
 logs_kept : (e : Entry) (past : List Entry) (d : Det) → is_crash e ≡ false → list_has (mentioned_dets e) d ≡ false → (p : ℕ) → logs past p d ≡ logs (e ∷ past) p d
@@ -56,8 +48,7 @@ logs_kept e past d turn silent p = grind (arith, nat_tests)
 -- an entry does not change them if it is not a crash, and mentions the determinant at most for a process
 -- that logs it
 pub copies_still : (e : Entry) (past : List Entry) (d : Det) (copies : DetCopies) → is_crash e ≡ false → (list_has (mentioned_dets e) d ≡ false) ⊎ IsDeliveredTo e past d → AreDetCopies past d copies → AreDetCopies (e ∷ past) d copies
-copies_still e past d copies turn (inl silent) are = record { holders = λ p. are.holders p ∙ logs_kept e past d turn silent p; stable = are.stable ∙ stable_stays e past d silent }
-copies_still e past d copies turn (inr held) are = copies_held e past d copies held are
+copies_still e past d copies turn which are = grind (arith, nat_tests, logs_kept, stable_stays)
 
 -- the copies at all places except the remaining ones are updated
 pub record HaveRenewed (e : Entry) (mentioned places rest : FinSet nat_cmp) (old now : List DetCopies) : Type 0 where
@@ -168,10 +159,6 @@ judged_more r f candidates t places rest least found p within so_far among first
 
 -- ---- all of them
 
--- a place is in a set, or it is not
-pub in_or_out : (s : FinSet nat_cmp) (j : ℕ) → (contains s j ≡ true) ⊎ (contains s j ≡ false)
-in_or_out s j = cases_Bool (contains s j)
-
 -- the copies after a step
 pub copied_next : (r : Recording) (candidates : List OpenDelivery) (s : WalkStep) → IsWalkStep r candidates s → (all held places : FinSet nat_cmp) (old new : List DetCopies) → ArePlaces candidates all → AreHeldBefore r candidates s held
     → ((j : ℕ) → contains all j ≡ true → contains places j ≡ false → (is_crash s.entry.now ≡ false) × ((contains s.mentioned j ≡ false) ⊎ (contains held j ≡ true)))
@@ -190,7 +177,7 @@ pub least_in_all : (r : Recording) (f : ℕ) (candidates : List OpenDelivery) (t
 least_in_all r f candidates t places rest least judged whole none =
     among_wider r f (t + 1) judged.done (positions_of candidates) least judged.inside (λ k listed.
     let at = place_of candidates k listed in
-    grind (arith, in_or_out places at.0, at.2, judged.each at.0, whole at.0, none at.0 at.1)) judged.found
+    grind (arith, cases_Bool (contains places at.0), at.2, judged.each at.0, whole at.0, none at.0 at.1)) judged.found
 
 -- ==== the determinants that each process is known to hold, after one more entry
 
@@ -261,10 +248,6 @@ pub is_step : (r : Recording) (candidates : List OpenDelivery) (start : ℕ) (bu
     → ((j : ℕ) → j < length candidates → IsDeliveryAt r.past (position_at candidates j)) → IsWalkStep r candidates s
 is_step r candidates start buffers s followed formed below next newly short inside told there made = grind (arith, mentions_here)
 
--- if there is no earliest breach, no delivery has an orphan
-pub none_of_all : (r : Recording) (f end : ℕ) (candidates : List OpenDelivery) → EarliestAmongBy r f end (positions_of candidates) None → HaveNoOrphans r f candidates end
-none_of_all r f end candidates none j low u within list_has = none (position_at candidates j) u (among_opened candidates j low) within list_has
-
 -- ---- the deliveries that are still open
 
 -- a delivery that is closed has no orphan
@@ -275,11 +258,6 @@ none_over r f t candidates j low later none over u within list_has = grind (arit
 -- it is removed from the set
 pub asked_less : (candidates : List OpenDelivery) (t place : ℕ) (unresolved : FinSet nat_cmp) → AreStillOpen candidates t unresolved → (opened_at candidates place).until ≤ t → AreStillOpen candidates t (remove unresolved place)
 asked_less candidates t place unresolved are over = grind (arith, left_in, left_out)
-
--- and the result is unchanged
-pub judged_over : (r : Recording) (f : ℕ) (candidates : List OpenDelivery) (t : ℕ) (places rest : FinSet nat_cmp) (least : Option Breach) (p : ℕ) → contains rest p ≡ true → HaveJudged r f candidates t places rest least
-    → Contains (positions_of candidates) (position_at candidates p) → HasNoOrphanBy r f (position_at candidates p) (t + 1) → HaveJudged r f candidates t places (remove rest p) least
-judged_over r f candidates t places rest least p within so_far among none = grind (arith, judged_more r f candidates t places rest least None p within so_far among none)
 
 -- the places after one more delivery
 pub places_more : (places : FinSet nat_cmp) (place : ℕ) → ((j : ℕ) → (contains places j ≡ true) ↔ (j < place)) → (j : ℕ) → (contains (insert places place) j ≡ true) ↔ (j < place + 1)

@@ -1,5 +1,5 @@
 -- Until when a process remains down or a holder of a determinant, and the determinant's safety until then.
-use Rattle.causal_audit.proofs.Common.{ℕ, ◌≡◌, ◌+◌, ◌<◌, ◌≤◌, inl, inr, Bool, true, false, List, [], ◌∷◌, length, refl, sym, subst, ◌∙◌, arith, Some, None, ◌||◌, ◌&&◌, ◌==◌, not, ◌↔◌, Contains, cases_lt, false≢true, Det, count_below, count_below-within, members_counted, Entry, instant, is_down, is_stable, logs, list_has, entry_at, instant_length, det_then, accepted_then, nat_cmp_total, nat_cmp, FinSet, contains, difference, contains-difference, union, len, contains-union, AreLegalEntries, first_fault, delivers_up, nat_tests}
+use Rattle.causal_audit.proofs.Common.{ℕ, ◌≡◌, ◌+◌, ◌<◌, ◌≤◌, inl, inr, Bool, true, false, List, [], ◌∷◌, length, refl, sym, subst, ◌∙◌, arith, Some, None, ◌||◌, ◌&&◌, ◌==◌, not, ◌↔◌, Contains, cases_lt, false≢true, Det, count_below, count_below-within, members_counted, Entry, instant, is_down, is_stable, logs, list_has, entry_at, instant_length, det_then, accepted_then, nat_cmp_total, nat_cmp, FinSet, contains, difference, contains-difference, union, len, contains-union, AreLegalEntries, delivers_up, nat_tests}
 use Rattle.causal_audit.specs.Laws.{down_or_holding}
 use Rattle.causal_audit.specs.Inside.SafetyScan.Scans.{AreWatched, IsAtRiskAt, RulesOut, IsSafetyOf}
 use Rattle.causal_audit.specs.NoRelease.{may_release, NoneReleasedFrom, RemainsSafe, OrphansEnd}
@@ -7,9 +7,9 @@ use Rattle.causal_audit.proofs.Lemmas.OrphansByCounts.{exposed, unexposed}
 use Rattle.causal_audit.proofs.NoOrphanSoFar.{not_yet}
 use Rattle.causal_trace.specs.Past.{mentioned_dets}
 use Rattle.causal_audit.specs.Quiet.{SameDeliveryState, InstantsAgree, OrphansAgree}
-use Rattle.causal_audit.specs.Inside.SafetyScan.Persistence.{restarts_one, DownOrHoldingPersists, HoldersPersist, MentionsNone, RestartsNone}
+use Rattle.causal_audit.specs.Inside.SafetyScan.Persistence.{DownOrHoldingPersists, HoldersPersist, MentionsNone, RestartsNone}
 use Rattle.causal_audit.proofs.by_clock.Begun.{onward_to}
-use Rattle.causal_audit.proofs.Between.{agree_back, agree_then, exposed_agrees, next_entry, quiet_step}
+use Rattle.causal_audit.proofs.Between.{agree_back, exposed_agrees, next_entry, quiet_step}
 use Rattle.causal_audit.specs.Inside.PositionLists.{HasNoneUntil, AreMentionsOf, HasMentions}
 use Rattle.std.specs.FinSet.{is_subset-contains}
 use Rattle.causal_audit.specs.Inside.Index.Reachability.{HasReached}
@@ -69,40 +69,26 @@ none_later (e ∷ past) t u up none = (none_later past t u up none.0, λ late. n
 
 -- ---- the processes that are down or hold it
 
-gone_next : (e : Entry) (past : List Entry) (d : Det) (members : FinSet nat_cmp) (p : ℕ) → list_has (mentioned_dets e) d ≡ false → restarts_one members e ≡ false → contains members p ≡ true → down_or_holding past d p ≡ true → down_or_holding (e ∷ past) d p ≡ true
-gone_next e past d members p none out inside h = grind (arith, nat_tests)
-
 pub gone_stay : DownOrHoldingPersists
 gone_stay past d members t u p up within unmentioned unrestarted inside here =
     onward_to (λ x. down_or_holding x d p ≡ true) past t u up within
-    (λ v e above below at h. gone_next e (instant past v) d members p (unmentioned v e above below at) (unrestarted v e above below at) inside h) here
+    (λ v e above below at h. grind (arith, nat_tests, unmentioned v e above below at, unrestarted v e above below at, inside, h)) here
 
 -- ---- the processes that hold it
-
-up_holder : (n : ℕ) (e : Entry) (past : List Entry) (d : Det) (p : ℕ) → first_fault n past e ≡ None → (logs past p d ≡ true → is_down past p ≡ false) → logs (e ∷ past) p d ≡ true → is_down (e ∷ past) p ≡ false
-up_holder n e past d p legal before h = grind (arith, delivers_up n past, nat_tests)
 
 -- a process that holds a determinant is up
 pub holder_up : (n : ℕ) (past : List Entry) (d : Det) (p : ℕ) → AreLegalEntries n past → logs past p d ≡ true → is_down past p ≡ false
 holder_up n [] d p formed h = refl
-holder_up n (e ∷ past) d p formed h = up_holder n e past d p formed.1 (holder_up n past d p formed.0) h
+holder_up n (e ∷ past) d p formed h = grind (arith, delivers_up n past, holder_up n past d p formed.0, nat_tests)
 
 pub up_held : (held down : Bool) → (held ≡ true → down ≡ false) → held ≡ (held && not down)
 up_held held down h = grind (arith, nat_tests)
 
-held_next : (e : Entry) (past : List Entry) (d : Det) (members : FinSet nat_cmp) (p : ℕ) (was : Bool) → list_has (mentioned_dets e) d ≡ false → restarts_one members e ≡ false → (was ≡ true → contains members p ≡ true)
-    → logs past p d ≡ (was && not (is_down past p)) → logs (e ∷ past) p d ≡ (was && not (is_down (e ∷ past) p))
-held_next e past d members p was none out inside h = grind (arith, nat_tests)
-
 pub holders_stay : HoldersPersist
 holders_stay n past d members t u p formed up within unmentioned unrestarted inside =
     onward_to (λ x. logs x p d ≡ (logs (instant past t) p d && not (is_down x p))) past t u up within
-    (λ v e above below at h. held_next e (instant past v) d members p (logs (instant past t) p d) (unmentioned v e above below at) (unrestarted v e above below at) inside h)
+    (λ v e above below at h. grind (arith, nat_tests, unmentioned v e above below at, unrestarted v e above below at, inside, h))
     (up_held (logs (instant past t) p d) (is_down (instant past t) p) (holder_up n (instant past t) d p (accepted_then n past t formed)))
-
--- the difference of two sets, as tests
-pub difference_shown : (s t : FinSet nat_cmp) (p : ℕ) (held down : Bool) → contains s p ≡ held → contains t p ≡ down → contains (difference s t) p ≡ (held && not down)
-difference_shown s t p held down h k = contains-difference nat_cmp_total s t p ∙ (λ i. h i && not (k i))
 
 -- the instant after an entry
 pub entry_then : (past : List Entry) (v : ℕ) (e : Entry) → v < length past → entry_at past v ≡ Some e → instant past (v + 1) ≡ e ∷ instant past v
@@ -114,7 +100,7 @@ instants_agree n past k d t u formed up within quiet =
     onward_to (λ x. SameDeliveryState (instant past t) x k d) past t u up within
     (λ v e above below at so_far.
     let legal : AreLegalEntries n (e ∷ instant past v) = subst (AreLegalEntries n) (entry_then past v e (omega (arith, below, within)) at) (accepted_then n past (v + 1) formed) in
-    agree_then k d (instant past t) (instant past v) (e ∷ instant past v) so_far (quiet_step n e (instant past v) k d legal (quiet v e above below at)))
+    grind (arith, so_far, quiet_step n e (instant past v) k d legal (quiet v e above below at)))
     (record { down = λ p. refl; logged = λ p. refl; stable = refl; dependents = λ p. (λ x. x, λ x. x) })
 
 -- so a delivery before both has an orphan at both or at neither
@@ -151,9 +137,6 @@ pub kept_still : (n most : ℕ) (past : List Entry) → AreLegalEntries n past �
 kept_still n most past formed d t u reached down holders has_reached downs holds keep stay =
     kept_by n most past formed d u reached (union down holders) has_reached keep (λ p h. stay p (sym (gone_shown n (instant past t) d (accepted_then n past t formed) down holders downs holds p) ∙ h))
 
-pub unmentioned_at : (past : List Entry) (d : Det) (mentions : List ℕ) → HasMentions past d mentions → (t next : ℕ) → HasNoneUntil mentions t next → (v : ℕ) → t ≤ v → v < next → (e : Entry) → entry_at past v ≡ Some e → list_has (mentioned_dets e) d ≡ false
-unmentioned_at past d mentions mentioned t next none v above below e there = mentioned v e there (none v above below)
-
 -- an entry mentions the determinant exactly if its position is in the list of mentions
 pub mentioned_listed : (past : List Entry) (d : Det) (mentions : List ℕ) → HasMentions past d mentions → AreMentionsOf past d mentions → (v : ℕ) (e : Entry) → entry_at past v ≡ Some e → (told : Bool) → (told ≡ true) ↔ Contains mentions v → told ≡ list_has (mentioned_dets e) d
 mentioned_listed past d mentions mentioned only v e there told same = grind (arith, only v, mentioned v e there)
@@ -165,16 +148,12 @@ mentioned_next past d mentions mentioned only t next none v above low found e th
 
 -- ---- until an entry mentions it or restarts a watched process
 
--- what restarts none of some processes restarts none of fewer
-restarts_within : (inner outer : FinSet nat_cmp) (e : Entry) → ((p : ℕ) → contains inner p ≡ true → contains outer p ≡ true) → restarts_one outer e ≡ false → restarts_one inner e ≡ false
-restarts_within inner outer e inside out = grind arith
-
 module _ (n : ℕ) (past : List Entry) (formed : AreLegalEntries n past) (d : Det) (t next : ℕ) (within : next ≤ length past) (unmentioned : MentionsNone past d t next) where
   -- if no holder restarts, the holders that are not down then still hold it
   pub holds_until : (holders : FinSet nat_cmp) → HasExactly holders (λ p. logs (instant past t) p d) → RestartsNone past holders t next
       → (u : ℕ) → t ≤ u → u ≤ next → (fell : FinSet nat_cmp) → HasExactly fell (λ p. is_down (instant past u) p) → HasExactly (difference holders fell) (λ p. logs (instant past u) p d)
   holds_until holders holds unrestarted u up low fell falls p =
-      difference_shown holders fell p (logs (instant past t) p d) (is_down (instant past u) p) (holds p) (falls p)
+      contains-difference nat_cmp_total holders fell p ∙ (λ i. holds p i && not (falls p i))
       ∙ sym (holders_stay n past d holders t u p formed up (omega (arith, low, within))
       (λ v e above below. unmentioned v e above (omega (arith, below, low))) (λ v e above below. unrestarted v e above (omega (arith, below, low)))
       (λ held. holds p ∙ held))
@@ -186,7 +165,7 @@ module _ (n : ℕ) (past : List Entry) (formed : AreLegalEntries n past) (d : De
 
     -- no holder restarts
     pub holders_unrestarted : RestartsNone past holders t next
-    holders_unrestarted v e above below at = restarts_within holders watched e watches.holding (unrestarted v e above below at)
+    holders_unrestarted v e above below at = grind (arith, watches.holding, unrestarted v e above below at)
 
     -- each watched process is still down or holds it
     gone_until : (u : ℕ) → t ≤ u → u ≤ next → (p : ℕ) → contains watched p ≡ true → down_or_holding (instant past u) d p ≡ true
@@ -203,8 +182,3 @@ module _ (n : ℕ) (past : List Entry) (formed : AreLegalEntries n past) (d : De
     -- so its safety is unchanged
     pub stands_until : HasReached past d.dest.0 reached → (u : ℕ) → t ≤ u → u ≤ next → RulesOut s n most past d u
     stands_until = stands_from s watches.stands
-
--- if no mention is left, no entry mentions it
-pub none_mention : (past : List Entry) (d : Det) (mentions : List ℕ) → HasMentions past d mentions → (t next last : ℕ) → next ≤ last → HasNoneUntil mentions t last → MentionsNone past d t next
-none_mention past d mentions mentioned t next last low none v e above below there =
-    unmentioned_at past d mentions mentioned t last none v above (omega (arith, below, low)) e there

@@ -14,7 +14,7 @@ use Rattle.causal_audit.specs.Inside.Index.TransitionCursors.{IsCursorAt}
 use Rattle.causal_audit.specs.Inside.DeliveryStates.{HasExactly, ShowsDownAfter, ShowsHoldersAfter}
 use Rattle.causal_audit.specs.Inside.SafetyScan.Persistence.{MentionsNone}
 use Rattle.causal_trace.specs.Past.{mentioned_dets}
-use Rattle.causal_audit.proofs.safety_scan.CoverStays.{gone_lasts, holds_until, kept_still, mentioned_next, none_mention, none_later, over_then}
+use Rattle.causal_audit.proofs.safety_scan.CoverStays.{gone_lasts, holds_until, kept_still, mentioned_next, none_later, over_then}
 use Rattle.causal_audit.proofs.index.Cursors.{cursor_later}
 use Rattle.causal_audit.proofs.Steps.{entry_read, entry_then}
 use Rattle.causal_audit.proofs.index.DownAfterTurns.{passed_down}
@@ -39,7 +39,7 @@ module _ (look : SafetyScan) (scan_position : ScanPosition) (mention change : �
 
   unmentioned : MentionsNone past look.det scan_position.t change
   unmentioned v e above below there =
-      none_mention (instant past look.end) look.det look.mentions.now look.mentioned scan_position.t change mention bounds.1 none v e above below (entry_then past look.end v (omega (arith, below, bounds.1, early.1)) look.within ∙ there)
+      look.mentioned v e (entry_then past look.end v (omega (arith, below, bounds.1, early.1)) look.within ∙ there) (none v above (omega (arith, below, bounds.1)))
 
   kept_until : IsKeptUntil look scan_position change
   kept_until = kept formed unmentioned

@@ -1,13 +1,12 @@
 -- The search for open deliveries, determinant by determinant.
-use Rattle.causal_audit.proofs.Common.{FinSet, nat_cmp, ℕ, ◌≡◌, ◌+◌, ◌<◌, ◌≤◌, inl, inr, true, List, [], ◌∷◌, ◌++◌, length, Option, None, Some, refl, sym, ap, subst, ◌∙◌, arith, slice_index, Contains, map-append, All-push, All-nil, Contains-append_left, Contains-append_right, Contains-permutation, IsPermutation, IsPermutation-map, All-permutation, cases_lt, cond-true, cond-false, eq-eqb, ltb-true, ltb-false, Det, same_det, Entry, Deliver, deliveries_in, det_at, det_of, det_then, instant, instant_length, AreLegalEntries}
+use Rattle.causal_audit.proofs.Common.{FinSet, nat_cmp, ℕ, ◌≡◌, ◌+◌, ◌<◌, ◌≤◌, inl, inr, List, [], ◌∷◌, ◌++◌, length, Option, None, Some, refl, sym, ap, subst, ◌∙◌, arith, slice_index, Contains, map-append, All-push, Contains-append_left, Contains-append_right, Contains-permutation, IsPermutation, IsPermutation-map, All-permutation, cases_lt, cond-true, cond-false, eq-eqb, ltb-true, ltb-false, Det, Entry, Deliver, deliveries_in, det_at, det_then, instant, instant_length, AreLegalEntries}
 use Rattle.std.proofs.lemmas.Bool.{lt-ltb}
 use Rattle.std.proofs.lemmas.List.Elements.{All-append}
 use Rattle.causal_trace.specs.Numbers.{delivered_dets, number_of}
 use Rattle.causal_trace.proofs.Lemmas.DeliveryNumbers.{number_among, number_below, found_below, numbers_apart}
-use Rattle.causal_audit.specs.Numbers.{is_delivery, IsNumbered}
+use Rattle.causal_audit.specs.Numbers.{IsNumbered}
 use Rattle.causal_audit.specs.declared.group.walk_input.OpenDelivery.{OpenDelivery}
 use Rattle.causal_audit.specs.Searches.{SearchScope, IncludeUnsafe, IsNewest, delivery_count}
-use Rattle.causal_audit.specs.Inside.Index.Lists.{AreOwned, list_at}
 use Rattle.causal_audit.specs.Inside.Group.OpenDeliveries.{IsOpenDeliverySearch, AreFollowed, AreAllOpen, AreListedOrSafe, AreOpenBetween, HasMore, IsDeliveryAt, IsOpenDelivery, IsListedOrSafe, positions_of}
 use Rattle.causal_audit.specs.declared.index.mentions.Mentions.{Mentions}
 use Rattle.causal_audit.proofs.DeliveryNumbers.{numbered_below, numbered_later, numbered_some}
@@ -15,22 +14,15 @@ use Rattle.causal_audit.proofs.Lemmas.NumberLemmas.{has_number}
 use Rattle.causal_audit.proofs.NoOrphanSoFar.{not_yet}
 use Rattle.causal_audit.proofs.group.OpenPositions.{position}
 use Rattle.causal_audit.proofs.index.Filings.{number_of_found}
-use Rattle.causal_name.proofs.Lemmas.DetOrder.{same_is}
+use Rattle.causal_name.proofs.Lemmas.DetOrder.{same_is, same_itself}
 
 -- ==== deliveries by their numbers and by their determinants
 
--- the next delivery has a determinant
-own_det : (n : ℕ) (e : Entry) (past : List Entry) → AreLegalEntries n (e ∷ past) → is_delivery e ≡ true → (d : Det) × (det_of past e ≡ Some d)
-own_det n e past formed is = grind (arith, numbered_some n (e ∷ past) (deliveries_in past) (length past) formed (inr (refl, is, refl)))
-
--- so each delivery has one
+-- each delivery has a determinant
 dets_counted : (n : ℕ) (past : List Entry) → AreLegalEntries n past → length (delivered_dets past) ≡ deliveries_in past
 dets_counted n [] formed = refl
-dets_counted n (Deliver to send rsn listed ∷ past) formed = grind (arith, dets_counted n past formed.0, own_det)
+dets_counted n (Deliver to send rsn listed ∷ past) formed = grind (arith, dets_counted n past formed.0, numbered_some n (Deliver to send rsn listed ∷ past) (deliveries_in past) (length past) formed (inr (refl, refl, refl)))
 dets_counted n (e ∷ past) formed = dets_counted n past formed.0
-
-same_self : (d : Det) → same_det d d ≡ true
-same_self d = grind (arith, eq-eqb d.source.0 d.source.0 refl, eq-eqb d.ssn d.ssn refl, eq-eqb d.dest.0 d.dest.0 refl, eq-eqb d.rsn d.rsn refl)
 
 numbered_within : (past : List Entry) (i k : ℕ) → IsNumbered past i k → k < length past
 numbered_within [] i k numbered = absurd numbered
@@ -39,7 +31,7 @@ numbered_within (e ∷ past) i k numbered = grind (arith, numbered_within past i
 -- the newest delivery up to number i with the determinant of delivery number i is that delivery
 pub number_of_own : (n : ℕ) (past : List Entry) → AreLegalEntries n past → (i k : ℕ) (d : Det) → IsNumbered past i k → det_at past k ≡ Some d → number_of (i + 1) (delivered_dets past) d ≡ Some i
 number_of_own n [] formed i k d numbered at = absurd numbered
-number_of_own n (e ∷ past) formed i k d (inr new) at = grind (arith, cond-true, eq-eqb, dets_counted, lt-ltb, same_self)
+number_of_own n (e ∷ past) formed i k d (inr new) at = grind (arith, cond-true, eq-eqb, dets_counted, lt-ltb, same_itself)
 number_of_own n (e ∷ past) formed i k d (inl old) at =
     grind (arith, number_of_own n past formed.0 i k d old, numbered_within, cond-false, dets_counted, numbered_below)
 
@@ -98,9 +90,6 @@ newest_among_fewer m n [] d i low wider at = absurd (let x : None ≡ Some i = a
 newest_among_fewer m n (x ∷ older) d i low wider at =
     grind (arith, cond-true, cond-false, lt-ltb, ltb-true, ltb-false, found_below, number_below n older d, newest_among_fewer m n older d i low wider)
 
-some_number : (o : Option ℕ) → (o ≡ None → ⊥) → (i : ℕ) × (o ≡ Some i)
-some_number o there = grind arith
-
 -- a delivery before the end has a newest one with its determinant, at its own number or later
 pub has_newest : (scope : SearchScope) → AreLegalEntries scope.run.processes scope.run.past → scope.end ≤ length scope.run.past → (k : ℕ) (d : Det) → k < scope.end → det_at scope.run.past k ≡ Some d → (i : ℕ) × IsNewest scope d i × (i < delivery_count scope)
 has_newest scope formed within k d early at =
@@ -109,7 +98,7 @@ has_newest scope formed within k d early at =
     let count = delivery_count scope in
     let number = has_number (instant past scope.end) k d (det_then past scope.end k early within ∙ at) in
     let own = number_of_own scope.run.processes past formed number.0 k d (numbered_later past scope.end number.0 k within number.2) at in
-    let newest = some_number (number_of count dets d) (λ none. newest_there (number.0 + 1) count dets d number.0 (omega (arith, number.1)) own none) in
+    let newest : (i : ℕ) × (number_of count dets d ≡ Some i) = grind (arith, newest_there (number.0 + 1) count dets d number.0 (omega (arith, number.1)) own) in
     (newest.0, newest.1, found_below (number_of count dets d) count newest.0 (number_among count dets d) newest.1)
 
 -- the deliveries with a determinant, by their numbers
@@ -117,13 +106,9 @@ module _ (scope : SearchScope) (formed : AreLegalEntries scope.run.processes sco
   own : number_of (i + 1) (delivered_dets scope.run.past) d ≡ Some i
   own = number_of_own scope.run.processes scope.run.past formed i k d numbered at
 
-  -- none is newer than the newest
-  pub no_newer : (newest : ℕ) → i < delivery_count scope → IsNewest scope d newest → i ≤ newest
-  no_newer newest low is = newest_later (i + 1) (delivery_count scope) (delivered_dets scope.run.past) d i newest (omega (arith, low)) own is
-
-  -- none lies between one and the next older
-  pub none_between : (number older : ℕ) → i < number → number_of number (delivered_dets scope.run.past) d ≡ Some older → i ≤ older
-  none_between number older low is = newest_later (i + 1) number (delivered_dets scope.run.past) d i older (omega (arith, low)) own is
+  -- none below a number is newer than the newest below it
+  pub none_newer : (number newest : ℕ) → i < number → number_of number (delivered_dets scope.run.past) d ≡ Some newest → i ≤ newest
+  none_newer number newest low is = newest_later (i + 1) number (delivered_dets scope.run.past) d i newest (omega (arith, low)) own is
 
   -- none is older than the oldest
   pub none_older : (number : ℕ) → number_of number (delivered_dets scope.run.past) d ≡ None → number ≤ i
@@ -133,20 +118,11 @@ module _ (scope : SearchScope) (formed : AreLegalEntries scope.run.processes sco
 pub one_determinant : (scope : SearchScope) (d e : Det) (i : ℕ) → IsNewest scope d i → number_of (i + 1) (delivered_dets scope.run.past) e ≡ Some i → d ≡ e
 one_determinant scope d e i newest own = same_is d e (numbers_apart (i + 1) (delivered_dets scope.run.past) d e i (number_of_found (delivery_count scope) (delivered_dets scope.run.past) d i newest) own)
 
--- a delivery whose list has elements is the newest
-pub listed_newest : (scope : SearchScope) (lists : List (List ℕ)) (i v : ℕ) (d : Det) → AreOwned (delivered_dets scope.run.past) lists → Contains (list_at lists i) v → number_of (i + 1) (delivered_dets scope.run.past) d ≡ Some i → i < delivery_count scope → delivery_count scope ≤ length lists
-    → IsNewest scope d i
-listed_newest scope lists i v d owned has own low wide = newest_among_fewer (delivery_count scope) (length lists) (delivered_dets scope.run.past) d i low wide (owned i v d has own)
-
 -- ==== deliveries that are listed or have no orphan
 
 -- nothing more is listed
 pub no_more : (scope : SearchScope) (listed : List OpenDelivery) → HasMore scope listed listed
 no_more scope listed = record { followed = λ so_far. so_far; listed = λ k told. told }
-
--- more is listed in two steps
-pub more_twice : (scope : SearchScope) (a b c : List OpenDelivery) → HasMore scope a b → HasMore scope b c → HasMore scope a c
-more_twice scope a b c first second = record { followed = λ so_far. second.followed (first.followed so_far); listed = λ k told. second.listed k (first.listed k told) }
 
 -- with one more delivery listed, the earlier ones remain listed
 module _ (scope : SearchScope) (before : List OpenDelivery) (delivery : OpenDelivery) where
@@ -154,19 +130,15 @@ module _ (scope : SearchScope) (before : List OpenDelivery) (delivery : OpenDeli
   still_told k (inl among) = inl (subst (λ list. Contains list k) (sym (map-append position before (delivery ∷ []))) (Contains-append_left (positions_of before) (delivery.position ∷ []) k among))
   still_told k (inr none) = inr none
 
-  more_followed : IsDeliveryAt scope.run.past delivery.position → IsOpenDelivery scope.run scope.f scope.end delivery → AreFollowed scope before → AreFollowed scope (before ++ delivery ∷ [])
-  more_followed made later so_far = record {
-    within = so_far.within;
-    deliveries = All-push (λ (x : OpenDelivery). IsDeliveryAt scope.run.past x.position) before delivery so_far.deliveries made;
-    none_later = All-push (IsOpenDelivery scope.run scope.f scope.end) before delivery so_far.none_later later;
-  }
-
   pub one_more_listed : IsDeliveryAt scope.run.past delivery.position → IsOpenDelivery scope.run scope.f scope.end delivery → HasMore scope before (before ++ delivery ∷ [])
-  one_more_listed made later = record { followed = more_followed made later; listed = still_told }
-
--- no delivery
-pub nothing_listed : (scope : SearchScope) → scope.end ≤ length scope.run.past → (to : ℕ) → AreOpenBetween scope to to []
-nothing_listed scope within to = grind (arith, All-nil)
+  one_more_listed made later = record {
+    followed = λ so_far. record {
+      within = so_far.within;
+      deliveries = All-push (λ (x : OpenDelivery). IsDeliveryAt scope.run.past x.position) before delivery so_far.deliveries made;
+      none_later = All-push (IsOpenDelivery scope.run scope.f scope.end) before delivery so_far.none_later later;
+    };
+    listed = still_told;
+  }
 
 -- the part of one more number
 pub one_more_number : (scope : SearchScope) (number to : ℕ) (before after : List OpenDelivery) → HasMore scope before after → ((d : Det) → IsNewest scope d number → AreListedOrSafe scope after d) → AreOpenBetween scope (number + 1) to before → AreOpenBetween scope number to after
@@ -196,9 +168,7 @@ pub any_other : (scope : SearchScope) (candidates : List OpenDelivery) → AreAl
 any_other scope candidates gathered k d at =
     elim (cases_lt k scope.end) [
       | inl h ↦ gathered.all k h (d, at)
-      | inr h ↦ inr (λ t in_time has.
-          let size = instant_length scope.run.past t (omega (arith, in_time, gathered.followed.within)) in
-          not_yet scope.run.processes scope.f (instant scope.run.past t) k (omega (arith, h, in_time, size)) has)
+      | inr h ↦ inr (λ t in_time has. grind (arith, gathered.followed.within, instant_length scope.run.past t, not_yet scope.run.processes scope.f (instant scope.run.past t) k, has))
     ]
 
 -- the order of the listed deliveries does not matter

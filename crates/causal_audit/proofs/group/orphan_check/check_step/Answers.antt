@@ -1,6 +1,6 @@
-use Rattle.causal_audit.proofs.Common.{◌≡◌, ◌≤◌, ◌∙◌, arith, inl, inr, sym, ap, subst, ℕ, false, contains, contains-empty, nat_cmp, ◌+◌, and_parts, and_from, instant, HasOrphan, false≢true}
-use Rattle.causal_audit.specs.Inside.Group.Walk.{position_at, opened_at, IsSuspect, IsBreachOfPlace}
-use Rattle.causal_audit.proofs.group.GroupWalk.{among_opened, asked_less, judged_over, found_next, in_or_out, judged_more, least_in_all, none_over, suspect}
+use Rattle.causal_audit.proofs.Common.{◌≡◌, ◌≤◌, ◌∙◌, arith, inl, inr, sym, ap, subst, ℕ, false, contains, contains-empty, nat_cmp, ◌+◌, and_parts, and_from, instant, HasOrphan, false≢true, cases_Bool, None}
+use Rattle.causal_audit.specs.Inside.Group.Walk.{position_at, opened_at, IsBreachOfPlace}
+use Rattle.causal_audit.proofs.group.GroupWalk.{among_opened, asked_less, found_next, judged_more, least_in_all, none_over, suspect}
 use Rattle.causal_trace.proofs.Lemmas.AtInstants.{up_to_next}
 use Rattle.causal_audit.proofs.group.orphan_check.check_step.Goals as goal
 
@@ -16,7 +16,7 @@ loop-least-preserved-then-delivery-step c =
     record {
       judged =
           rw c.remove.ensures
-          (judged_over r c.args.f candidates t c.intersection-rest.result c.loop-least.rest c.loop-least.least p c.in-Some.ensures.0 i.judged (among_opened candidates p low) (none_over r c.args.f t candidates p low c.requires.candidates c.requires.none over));
+          (grind (arith, judged_more r c.args.f candidates t c.intersection-rest.result c.loop-least.rest c.loop-least.least None p c.in-Some.ensures.0 i.judged (among_opened candidates p low) (none_over r c.args.f t candidates p low c.requires.candidates c.requires.none over)));
       unresolved = rw c.remove-then-delivery-step.ensures (asked_less candidates (t + 1) p c.loop-least.unresolved i.unresolved over);
     }
 
@@ -46,13 +46,11 @@ returns-clause-found c =
     let candidates = c.args.candidates.now in
     let buffers = c.args.buffers.now in
     let s = c.args.step.now in
-    least_in_all r f candidates s.t c.intersection-rest.result c.loop-least.rest c.loop-least.least c.loop-least.invariant.judged (whole c) (λ j low out. elim (in_or_out c.args.unresolved.now j) [
+    least_in_all r f candidates s.t c.intersection-rest.result c.loop-least.rest c.loop-least.least c.loop-least.invariant.judged (whole c) (λ j low out. elim (cases_Bool (contains c.args.unresolved.now j)) [
       | inr out ↦ none_over r f s.t candidates j low c.requires.candidates c.requires.none (omega (arith, c.requires.unresolved.over j low out))
       | inl still ↦
           up_to_next (λ u. HasOrphan r.processes f (instant r.past u) (position_at candidates j) → ⊥) s.t (c.requires.none j low) (λ has.
           false≢true (sym out ∙ c.intersection-rest.ensures j ∙ and_from (contains c.args.unresolved.now j) (contains c.suspect_places-places.result j) still (c.suspect_places-places.ensures j
-          (subst (λ n. IsSuspect s.entry.now s.newly s.mentioned c.deref.result.now c.deref-2.result.now n j) (sym c.processes.ensures.value)
-          (subst (λ held. IsSuspect s.entry.now s.newly s.mentioned c.deref.result.now held r.processes j) (sym c.deref-2.ensures.value)
-          (subst (λ present. IsSuspect s.entry.now s.newly s.mentioned present buffers.held_places.items r.processes j) (sym c.deref.ensures.value)
-          (suspect r f candidates buffers.reach.start buffers s c.requires.step c.requires.followed j low (c.requires.none j low) has)))))))
+          (rw (c.processes.ensures.value, c.deref-2.ensures.value, c.deref.ensures.value)
+          (suspect r f candidates buffers.reach.start buffers s c.requires.step c.requires.followed j low (c.requires.none j low) has)))))
     ])

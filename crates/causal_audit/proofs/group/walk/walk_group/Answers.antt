@@ -1,11 +1,11 @@
 use Rattle.causal_audit.proofs.Common.{ℕ, ◌≡◌, ◌∙◌, ◌+◌, ◌<◌, length, sym, subst, arith, instant, is_down, HasOrphan}
 use Rattle.causal_audit.specs.Inside.Among.{EarliestAmongBy}
 use Rattle.causal_audit.specs.Inside.Group.OpenDeliveries.{positions_of}
-use Rattle.causal_audit.specs.Inside.Group.Walk.{HasRow, IsWalkState, IsHeldBy, RowsAreHeld, AreMentionedPlaces, row}
+use Rattle.causal_audit.specs.Inside.Group.Walk.{HasRow, IsWalkState, IsHeldBy, RowsAreHeld, AreMentionedPlaces, position_at, row}
 use Rattle.causal_audit.proofs.group.OpenPositions.{zero}
 use Rattle.causal_audit.specs.Inside.DeliveryStates.{HasExactly}
 use Rattle.causal_audit.specs.declared.group.buffers.WalkBuffers.{WalkBuffers}
-use Rattle.causal_audit.proofs.group.GroupWalk.{copied_next, marked_next, sees_each, place_of, held_then, is_step, told_after, none_of_all}
+use Rattle.causal_audit.proofs.group.GroupWalk.{copied_next, marked_next, sees_each, place_of, held_then, is_step, told_after, among_opened}
 use Rattle.causal_audit.proofs.Steps.{entry_read}
 use Rattle.causal_trace.proofs.Lemmas.AtInstants.{next_state}
 use Rattle.causal_audit.proofs.group.walk.walk_group.Goals as goal
@@ -73,7 +73,7 @@ loop-t-preserved c =
       followed = subst (λ start. IsWalkState r candidates start (t + 1) buffers) rows.start c.check_step.ensures.followed;
       unresolved = c.check_step.ensures.unresolved;
       passed = c.places_at-own.ensures.passed;
-      none = none_of_all r c.args.f (t + 1) candidates (subst (EarliestAmongBy r c.args.f (t + 1) (positions_of candidates)) c.in_default.is c.check_step.ensures.found);
+      none = λ j low u within has. subst (EarliestAmongBy r c.args.f (t + 1) (positions_of candidates)) c.in_default.is c.check_step.ensures.found (position_at candidates j) u (among_opened candidates j low) within has;
     }
 
 pub returns-clause-found : goal.returns-clause-found

@@ -1,5 +1,4 @@
-use Rattle.causal_audit.proofs.Common.{refl, subst, arith, union}
-use Rattle.causal_audit.specs.Inside.SafetyScan.Scans.{IsSafetyOf}
+use Rattle.causal_audit.proofs.Common.{refl, arith}
 use Rattle.causal_audit.proofs.safety_scan.LookSteps.{passed_to, written, onward_stop, over}
 use Rattle.causal_audit.proofs.safety_scan.SafetyScan.next.Goals as goal
 
@@ -20,15 +19,14 @@ returns-then-writes_det-clause-passed c =
 
 pub returns-then-is_safe-clause-passed : goal.returns-then-is_safe-clause-passed
 returns-then-is_safe-clause-passed c =
-    let look = c.args.self.now in
     passed_to _ _ _ _ c.entries-entries.ensures.formed.accepted (c.requires (omega (arith, c.if-scan_position-self.false)))
     c.next-mention.ensures.bounds c.next_change-last.ensures.bounds c.next-mention.ensures.none c.next_change-last.ensures.kept
     _ _ refl refl refl (omega (arith, c.next-mention.ensures.bounds, c.next_change-last.ensures.bounds)) (omega arith)
     (over _ _ _ _ c.entries-entries.ensures.formed.accepted (c.requires (omega (arith, c.if-scan_position-self.false)))
     c.next-mention.ensures.bounds c.next_change-last.ensures.bounds c.next-mention.ensures.none c.next_change-last.ensures.kept
     _ c.entries-entries.ensures.value _ c.index-entries-last.is c.if-last-self.false
-    _ c.next-mention.ensures.cursor c.next-mention.ensures.found _ c.next_change-last.ensures.passed _ c.down.ensures _ c.apply_entry.ensures.down (c.apply_entry.ensures.holders look.det) c.if-lasting.true
-    (subst (λ x. IsSafetyOf x look.limit look.det.dest.0 look.reached (union c.apply_entry.new.self.down c.apply_entry.new.self.holders)) (c.is_safe.ensures c.if-is_safe.true) c.safety_after-scan_position.ensures))
+    _ c.next-mention.ensures.cursor c.next-mention.ensures.found _ c.next_change-last.ensures.passed _ c.down.ensures _ c.apply_entry.ensures.down (c.apply_entry.ensures.holders c.args.self.now.det) c.if-lasting.true
+    (rw (c.is_safe.ensures c.if-is_safe.true) at c.safety_after-scan_position.ensures))
 
 pub returns-clause-scan_position : goal.returns-clause-scan_position
 returns-clause-scan_position c later =

@@ -1,12 +1,11 @@
 use Rattle.causal_audit.proofs.Common.{◌≤◌, sym, subst, arith, length}
 use Rattle.causal_audit.specs.Inside.Index.RunIndexes.{IsTransitionIndex}
-use Rattle.causal_audit.specs.Inside.Index.TransitionCursors.{IsCursorAt}
 use Rattle.causal_audit.proofs.safety_scan.CoverStays.{holders_unrestarted, stands_until}
 use Rattle.causal_audit.proofs.safety_scan.SafeByDown.{has_any_safety, holders_remain, safe_until}
 use Rattle.causal_audit.proofs.safety_scan.SafetyScan.next_change.Goals as goal
 
 pub returns-in-Some-clause-passed : goal.returns-in-Some-clause-passed
-returns-in-Some-clause-passed c = subst (λ ts. IsCursorAt ts c.next_fall.result c.next_fall.new.self) c.requires.same c.next_fall.ensures.passed
+returns-in-Some-clause-passed c = rw c.requires.same at c.next_fall.ensures.passed
 
 pub returns-in-Some-clause-kept : goal.returns-in-Some-clause-kept
 returns-in-Some-clause-kept c formed unmentioned =
@@ -27,7 +26,7 @@ returns-in-Some-clause-kept c formed unmentioned =
     }
 
 pub returns-in-None-clause-passed : goal.returns-in-None-clause-passed
-returns-in-None-clause-passed c = subst (λ ts. IsCursorAt ts c.next_restart.result c.next_restart.new.self) c.requires.same c.next_restart.ensures.passed
+returns-in-None-clause-passed c = rw c.requires.same at c.next_restart.ensures.passed
 
 pub returns-in-None-clause-kept : goal.returns-in-None-clause-kept
 returns-in-None-clause-kept c formed unmentioned =

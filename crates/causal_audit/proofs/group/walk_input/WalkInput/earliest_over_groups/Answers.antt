@@ -27,13 +27,11 @@ loop-group-init c =
 pub earliest_in_group-requires-clause-candidates : goal.earliest_in_group-requires-clause-candidates
 earliest_in_group-requires-clause-candidates c k delivery below u from before =
     let bound = horizon_within c.args.self.now.run c.args.f c.args.end (positions_of c.loop-group.invariant.least.0) c.loop-group.least c.loop-group.invariant.least.2 in
-    let over = IsOpenDelivery c.args.self.now.run c.args.f c.args.end in
-    all_left over c.in-Some.group.now (chunks_rest c.next.new.self) (subst (All over) c.in-Some.ensures.steps.1.0 c.loop-group.invariant.none_later) k delivery below u from (omega (arith, before, c.last_relevant_instant.ensures, bound))
+    all_left (IsOpenDelivery c.args.self.now.run c.args.f c.args.end) c.in-Some.group.now (chunks_rest c.next.new.self) (rw c.in-Some.ensures.steps.1.0 at c.loop-group.invariant.none_later) k delivery below u from (omega (arith, before, c.last_relevant_instant.ensures, bound))
 
 pub earliest_in_group-requires-clause-deliveries : goal.earliest_in_group-requires-clause-deliveries
 earliest_in_group-requires-clause-deliveries c =
-    let of : OpenDelivery → Type 0 = λ delivery. IsDeliveryAt c.args.self.now.run.past delivery.position in
-    all_left of c.in-Some.group.now (chunks_rest c.next.new.self) (subst (All of) c.in-Some.ensures.steps.1.0 c.loop-group.invariant.deliveries)
+    all_left (λ (x : OpenDelivery). IsDeliveryAt c.args.self.now.run.past x.position) c.in-Some.group.now (chunks_rest c.next.new.self) (rw c.in-Some.ensures.steps.1.0 at c.loop-group.invariant.deliveries)
 
 pub loop-group-preserved : goal.loop-group-preserved
 loop-group-preserved c =

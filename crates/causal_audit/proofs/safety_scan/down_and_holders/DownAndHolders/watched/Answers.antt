@@ -1,6 +1,5 @@
 use Rattle.causal_audit.proofs.Common.{◌≡◌, true, sym, subst, ◌∙◌, contains, difference, union}
 use Rattle.std.specs.FinSet.{is_subset}
-use Rattle.causal_audit.specs.Inside.SafetyScan.Scans.{IsSafetyOf}
 use Rattle.causal_audit.proofs.safety_scan.Watched.{watched_reached, watched_receiver}
 use Rattle.causal_audit.proofs.safety_scan.down_and_holders.DownAndHolders.watched.Goals as goal
 
@@ -8,7 +7,7 @@ pub returns-in-AtRisk : goal.returns-in-AtRisk
 returns-in-AtRisk c =
     let down = c.args.self.now.down in
     let holders = c.args.self.now.holders in
-    let there : contains (union down holders) c.args.receiver ≡ true = subst (λ s. IsSafetyOf s c.args.most c.args.receiver c.args.reached (union down holders)) c.in-AtRisk.is c.requires in
+    let there : contains (union down holders) c.args.receiver ≡ true = rw c.in-AtRisk.is at c.requires in
     rw (c.in-AtRisk.is, c.insert.ensures) (watched_receiver c.args.most c.args.receiver c.args.reached down holders there)
 
 pub returns-then-is_subset : goal.returns-then-is_subset

@@ -5,7 +5,7 @@ use Rattle.causal_audit.specs.Searches.{SearchScope, delivery_count}
 use Rattle.causal_audit.proofs.index.Filings.{number_of_found}
 use Rattle.causal_audit.proofs.DeliveryNumbers.{numbered_later}
 use Rattle.causal_audit.proofs.Lemmas.NumberLemmas.{has_number}
-use Rattle.causal_audit.proofs.safety_scan.SurveyAsks.{more_twice, no_newer, none_between, none_older}
+use Rattle.causal_audit.proofs.safety_scan.SurveyAsks.{none_newer, none_older}
 use Rattle.causal_audit.proofs.safety_scan.open_delivery_search.OpenDeliverySearch.check_sharers.Goals as goal
 
 pub check_delivery-requires-clause-few : goal.check_delivery-requires-clause-few
@@ -24,7 +24,7 @@ loop-older-init c =
       own = number_of_found count dets c.args.det newest c.requires.newest;
       more = c.in_ok-check_delivery.ensures.more;
       told = λ i k from below numbered at.
-          grind (arith, numbered, no_newer scope formed i k c.args.det numbered at newest below c.requires.newest, c.in_ok-check_delivery.ensures.listed k);
+          grind (arith, numbered, none_newer scope formed i k c.args.det numbered at count newest below c.requires.newest, c.in_ok-check_delivery.ensures.listed k);
     }
 
 pub loop-older-preserved : goal.loop-older-preserved
@@ -34,15 +34,16 @@ loop-older-preserved c =
     let was = c.loop-older.invariant in
     let number = c.loop-older.number in
     let older = c.in-Some.older in
+    let next = c.in_ok-check_delivery-2.ensures.more in
     let is : number_of number dets c.args.det ≡ Some older = subst (λ (a : SearchScope). number_of number (delivered_dets a.run.past) c.args.det ≡ Some older) c.self.view_is (sym c.older_delivery.ensures.value ∙ c.in-Some.is) in
     let low : older < number = found_below (number_of number dets c.args.det) number older (number_among number dets c.args.det) is in
     let formed : AreLegalEntries scope.run.processes scope.run.past = subst (λ (a : SearchScope). AreLegalEntries a.run.processes a.run.past) c.self.view_is c.self.invariant.formed.accepted in
     record {
       few = omega (arith, low, was.few);
       own = number_of_found number dets c.args.det older is;
-      more = more_twice scope c.args.found.now.items c.loop-older.found.items c.check_delivery-in-Some.new.found.items was.more c.in_ok-check_delivery-2.ensures.more;
+      more = record { followed = λ so_far. next.followed (was.more.followed so_far); listed = λ k told. next.listed k (was.more.listed k told) };
       told = λ i k from below numbered at.
-          grind (arith, numbered, cases_lt i number, none_between scope formed i k c.args.det numbered at number older, is, c.in_ok-check_delivery-2.ensures.listed k, c.in_ok-check_delivery-2.ensures.more.listed k, was.told i k);
+          grind (arith, numbered, cases_lt i number, none_newer scope formed i k c.args.det numbered at number older, is, c.in_ok-check_delivery-2.ensures.listed k, next.listed k, was.told i k);
     }
 
 pub returns-clause-listed : goal.returns-clause-listed

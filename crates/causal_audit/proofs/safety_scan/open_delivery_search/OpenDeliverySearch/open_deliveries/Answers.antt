@@ -1,12 +1,12 @@
-use Rattle.causal_audit.proofs.Common.{◌≡◌, ◌+◌, ◌-◌, sym, subst, arith}
+use Rattle.causal_audit.proofs.Common.{◌≡◌, ◌+◌, ◌-◌, sym, subst, arith, All-nil}
 use Rattle.causal_audit.specs.Inside.Group.OpenDeliveries.{AreOpenBetween}
-use Rattle.causal_audit.proofs.safety_scan.SurveyAsks.{nothing_listed, one_more_number}
+use Rattle.causal_audit.proofs.safety_scan.SurveyAsks.{one_more_number}
 use Rattle.causal_audit.proofs.safety_scan.open_delivery_search.OpenDeliverySearch.open_deliveries.Goals as goal
 
 pub loop-number-init : goal.loop-number-init
 loop-number-init c =
     let scope = c.args.self.now in
-    record { high = omega arith; searched = subst (AreOpenBetween scope c.args.to c.args.to) (sym c.new-found.ensures.items) (nothing_listed scope c.requires.within c.args.to) }
+    record { high = omega arith; searched = subst (AreOpenBetween scope c.args.to c.args.to) (sym c.new-found.ensures.items) (grind (arith, All-nil, c.requires.within)) }
 
 pub loop-number-preserved : goal.loop-number-preserved
 loop-number-preserved c =
