@@ -15,7 +15,7 @@ use Rattle.causal_text.specs.Spelling.{LeadsTo}
 use Rattle.causal_line.specs.Refusals.{IsWithinText}
 use Rattle.causal_text.specs.Inside.LineByLine.{after_lines}
 use Rattle.causal_text.specs.Inside.PartialLines.{IsLimitFault}
-use Rattle.causal_text.proofs.Complete.{after_lines-append, after_lines-place, Leads-reached}
+use Rattle.causal_text.proofs.Spellings.{after_lines-append, after_lines-place, Leads-reached}
 use Rattle.causal_text.proofs.Feeds.{grown, joined-append, lines_held, lines_joined, StandsFor-hold}
 use Rattle.causal_line.proofs.Lemmas.CompleteLines.{lines_complete, lines_rest, lines_grown, IsComplete-append}
 

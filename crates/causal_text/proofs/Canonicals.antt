@@ -22,9 +22,7 @@ use Rattle.causal_line.specs.declared.version.Version.TheVariants.{One, Two}
 use Rattle.causal_line.specs.Versions.{version_number, allows, AllowsAll, FitsVersion}
 use Rattle.causal_text.specs.Laws.{CanonicalTextReadsBack}
 use Rattle.causal_text.proofs.Sizes.{length-canonical}
-use Rattle.causal_text.proofs.ReadsBack.{read-compact_text}
-use Rattle.causal_text.proofs.ShapeData.{data_of, shape_compact, shape_back, shape_simple, shape_shallow, ShapeFits}
-use Rattle.causal_text.proofs.Plain.{plain_shape, plain_utf8, plain_no_feed}
+use Rattle.causal_text.proofs.ShapeData.{read-compact_text, data_of, shape_compact, shape_back, shape_simple, shape_shallow, ShapeFits, plain_shape, plain_utf8, plain_no_feed}
 use Rattle.causal_line.proofs.Lemmas.CompleteLines.{lines_complete}
 use Rattle.causal_line.proofs.Lemmas.Values.{json_of-utf8}
 
