@@ -25,18 +25,13 @@ chosen name word x y z {P} this other e = grind (arith, bytes_eq-Decides name wo
 
 -- ---- from the line to the request
 
--- the arguments of a delivery
-record IsDelivery (words : List ℕ) (r : Request) : Type 0 where
-  q : Pid
-  source : Pid
-  ssn : ℕ
-  is : r ≡ Deliver q source ssn
-  fits : (q.0 < 2 ^ 8) × (source.0 < 2 ^ 8) × (ssn < 2 ^ 32)
-  spelled : words ≡ decimal q.0 ++ (32 ∷ (decimal source.0 ++ (32 ∷ decimal ssn)))
+-- the line spells the request
+abbrev pub Says : List ℕ → Request → Type 0
+Says line r = IsRequest r × (line ≡ command_line r)
 
-delivered : (words : List ℕ) (r : Request) → parse_delivery words ≡ Some r → IsDelivery words r
+says_delivery : (name words line : List ℕ) (r : Request) → line ≡ name ++ 32 ∷ words → name ≡ codes "deliver" → parse_delivery words ≡ Some r → Says line r
 unfolding parse_delivery
-delivered words r e =
+says_delivery name words line r whole named e =
     let a = bind_some (split_at_byte 32 words) _ r e in
     let b = bind_some (split_at_byte 32 a.0.1) _ r a.2 in
     let q = bind_some (parse_process a.0.0) _ r b.2 in
@@ -45,21 +40,8 @@ delivered words r e =
     let to = decimal-process_of q.0 a.0.0 q.1 in
     let from = decimal-process_of source.0 b.0.0 source.1 in
     let number = decimal-number_of 4294967295 ssn.0 b.0.1 (omega arith) ssn.1 in
-    record {
-      q = q.0;
-      source = source.0;
-      ssn = ssn.0;
-      is = sym (same_Some _ _ ssn.2);
-      fits = (to.1, from.1, omega (arith, number.1));
-      spelled = cc ((cut_whole 32 words a.0 a.1).whole, (cut_whole 32 a.0.1 b.0 b.1).whole, to.0, from.0, number.0);
-    }
-
--- the line spells the request
-abbrev pub Says : List ℕ → Request → Type 0
-Says line r = IsRequest r × (line ≡ command_line r)
-
-says_delivery : (name words line : List ℕ) (r : Request) → line ≡ name ++ 32 ∷ words → name ≡ codes "deliver" → parse_delivery words ≡ Some r → Says line r
-says_delivery name words line r whole named e = grind (arith, delivered words r e)
+    let spelled : words ≡ decimal q.0.0 ++ (32 ∷ (decimal source.0.0 ++ (32 ∷ decimal ssn.0))) = cc ((cut_whole 32 words a.0 a.1).whole, (cut_whole 32 a.0.1 b.0 b.1).whole, to.0, from.0, number.0) in
+    rw (← same_Some _ _ ssn.2) ((to.1, from.1, omega (arith, number.1)), whole ∙ ap (λ xs. xs ++ 32 ∷ words) named ∙ ap (λ xs. codes "deliver " ++ xs) spelled)
 
 says_of_process : (name words line : List ℕ) (p : Pid) (r : Request) → line ≡ name ++ 32 ∷ words → words ≡ decimal p.0 → p.0 < 2 ^ 8 → parse_process_command name p ≡ Some r → Says line r
 unfolding parse_process_command

@@ -41,48 +41,26 @@ split_last_is true words parts e =
     subst (IsSplit true words) (same_Some _ _ steps.2) (record { whole = whole; fits = (omega (arith, from.1), most.1); word = refl })
 
 -- the numbers after the kind
-record IsNumbers (explores : Bool) (kind : Kind) (words : List ℕ) (s : Start) : Type 0 where
-  n : ℕ
-  f : ℕ
-  param : ℕ
-  exploration : Option Exploration
-  is : s ≡ record { kind = kind; n = n; f = f; param = param; exploration = exploration }
-  some : 1 ≤ n
-  few : n ≤ 256
-  faults : f < 2 ^ 16
-  small : param < 2 ^ 8
-  fits : IfSome exploration IsExploration
-  word : word_for explores ≡ exploration_word exploration
+record IsNumbers (explores : Bool) (kind : Kind) (s : Start) : Type 0 where
+  kind_is : s.kind ≡ kind
+  some : 1 ≤ s.n
+  few : s.n ≤ 256
+  faults : s.f < 2 ^ 16
+  fits : IfSome s.exploration IsExploration
+  word : word_for explores ≡ exploration_word s.exploration
 
-numbered_is : (explores : Bool) (kind : Kind) (words front back : List ℕ) (param : ℕ) (exploration : Option Exploration) (s : Start) → param < 2 ^ 8 → IfSome exploration IsExploration → word_for explores ≡ exploration_word exploration
-    → numbered_start kind front back param exploration ≡ Some s → (w : IsNumbers explores kind words s) × (front ≡ decimal w.n) × (back ≡ decimal w.f) × (w.param ≡ param) × (w.exploration ≡ exploration)
+numbered_is : (explores : Bool) (kind : Kind) (front back : List ℕ) (param : ℕ) (exploration : Option Exploration) (s : Start) → IfSome exploration IsExploration → word_for explores ≡ exploration_word exploration
+    → numbered_start kind front back param exploration ≡ Some s → IsNumbers explores kind s × (front ≡ decimal s.n) × (back ≡ decimal s.f) × (s.param ≡ param) × (s.exploration ≡ exploration)
 unfolding numbered_start
-numbered_is explores kind words front back param exploration s small fits word e =
+numbered_is explores kind front back param exploration s fits word e =
     let n = bind_some (parse_count front) _ s e in
     let f = bind_some (parse_number 65535 back) _ s n.2 in
     let count = decimal-count_of n.0 front n.1 in
-    let faults = decimal-number_of 65535 f.0 back (omega arith) f.1 in (
-      record {
-        n = n.0;
-        f = f.0;
-        param = param;
-        exploration = exploration;
-        is = sym (same_Some _ _ f.2);
-        some = count.1;
-        few = count.2;
-        faults = omega (arith, faults.1);
-        small = small;
-        fits = fits;
-        word = word;
-      },
-      count.0,
-      faults.0,
-      refl,
-      refl,
-    )
+    let faults = decimal-number_of 65535 f.0 back (omega arith) f.1 in
+    rw (← same_Some _ _ f.2) (record { kind_is = refl; some = count.1; few = count.2; faults = omega (arith, faults.1); fits = fits; word = word }, count.0, faults.0, refl, refl)
 
 with_param_is : (explores : Bool) (kind : Kind) (words : List ℕ) (s : Start) → parse_start_numbers explores kind words ≡ Some s
-    → (w : IsNumbers explores kind words s) × (words ≡ decimal w.n ++ (32 ∷ (decimal w.f ++ (32 ∷ (decimal w.param ++ exploration_numbers w.exploration)))))
+    → IsNumbers explores kind s × (s.param < 2 ^ 8) × (words ≡ decimal s.n ++ (32 ∷ (decimal s.f ++ (32 ∷ (decimal s.param ++ exploration_numbers s.exploration)))))
 unfolding parse_start_numbers
 with_param_is explores kind words s e =
     let a = bind_some (split_at_byte 32 words) _ s e in
@@ -91,21 +69,16 @@ with_param_is explores kind words s e =
     let param = bind_some (parse_number 255 c.0.0) _ s c.2 in
     let split = split_last_is explores b.0.1 c.0 c.1 in
     let number = decimal-number_of 255 param.0 c.0.0 (omega arith) param.1 in
-    let w = numbered_is explores kind words a.0.0 b.0.0 param.0 c.0.1 s (omega (arith, number.1)) split.fits split.word param.2 in
-    let first = (cut_whole 32 words a.0 a.1).whole in
-    let last : b.0.1 ≡ decimal w.0.param ++ exploration_numbers w.0.exploration =
-    split.whole ∙ ap (λ xs. xs ++ exploration_numbers c.0.1) (number.0 ∙ ap decimal (sym w.3)) ∙ ap (λ e. decimal w.0.param ++ exploration_numbers e) (sym w.4) in
-    let rest : a.0.1 ≡ decimal w.0.f ++ (32 ∷ (decimal w.0.param ++ exploration_numbers w.0.exploration)) =
-    (cut_whole 32 a.0.1 b.0 b.1).whole ∙ ap (λ xs. xs ++ 32 ∷ b.0.1) w.2 ∙ ap (λ xs. decimal w.0.f ++ (32 ∷ xs)) last in
-    (w.0, first ∙ ap (λ xs. xs ++ 32 ∷ a.0.1) w.1 ∙ ap (λ xs. decimal w.0.n ++ (32 ∷ xs)) rest)
+    let w = numbered_is explores kind a.0.0 b.0.0 param.0 c.0.1 s split.fits split.word param.2 in
+    (w.0, omega (arith, number.1, w.3), cc ((cut_whole 32 words a.0 a.1).whole, (cut_whole 32 a.0.1 b.0 b.1).whole, split.whole, number.0, w.1, w.2, w.3, w.4))
 
-tally_is : (explores : Bool) (words : List ℕ) (s : Start) → tally_of explores words ≡ Some s → (w : IsNumbers explores Tally words s) × (w.param ≡ 0) × (words ≡ decimal w.n ++ (32 ∷ (decimal w.f ++ exploration_numbers w.exploration)))
+tally_is : (explores : Bool) (words : List ℕ) (s : Start) → tally_of explores words ≡ Some s → IsNumbers explores Tally s × (s.param ≡ 0) × (words ≡ decimal s.n ++ (32 ∷ (decimal s.f ++ exploration_numbers s.exploration)))
 unfolding tally_of
 tally_is explores words s e =
     let a = bind_some (split_at_byte 32 words) _ s e in
     let c = bind_some (split_last explores a.0.1) _ s a.2 in
     let split = split_last_is explores a.0.1 c.0 c.1 in
-    let w = numbered_is explores Tally words a.0.0 c.0.0 0 c.0.1 s (omega arith) split.fits split.word c.2 in
+    let w = numbered_is explores Tally a.0.0 c.0.0 0 c.0.1 s split.fits split.word c.2 in
     (w.0, w.3, cc ((cut_whole 32 words a.0 a.1).whole, split.whole, w.1, w.2, w.4))
 
 -- the line spells the start
@@ -113,18 +86,28 @@ abbrev pub SaysStart : List ℕ → Start → Type 0
 SaysStart line s = IsStart s × (line ≡ start_line s)
 
 says_with_param : (explores : Bool) (kind : Kind) (word name words line : List ℕ) (s : Start) → (kind ≡ Tally → ⊥)
-    → ((n f param : ℕ) (e : Option Exploration) → exploration_word e ++ (word ++ (32 ∷ (decimal n ++ (32 ∷ (decimal f ++ (32 ∷ (decimal param ++ exploration_numbers e))))))) ≡ start_line (record { kind = kind; n = n; f = f; param = param; exploration = e }))
+    → (s.kind ≡ kind → exploration_word s.exploration ++ (word ++ (32 ∷ (decimal s.n ++ (32 ∷ (decimal s.f ++ (32 ∷ (decimal s.param ++ exploration_numbers s.exploration))))))) ≡ start_line s)
     → line ≡ word_for explores ++ (name ++ 32 ∷ words) → name ≡ word → parse_start_numbers explores kind words ≡ Some s → SaysStart line s
-says_with_param explores kind word name words line s other spells whole named e = grind (arith, with_param_is explores kind words s e)
+says_with_param explores kind word name words line s other spells whole named e =
+    let w = with_param_is explores kind words s e in
+    let n = w.0 in (
+      record { some = n.some; few = n.few; faults = n.faults; param = w.1; tally = λ t. absurd (other (sym n.kind_is ∙ t)); explored = n.fits },
+      rw (whole, named, n.word, w.2) (spells n.kind_is),
+    )
 
 says_tally : (explores : Bool) (name words line : List ℕ) (s : Start) → line ≡ word_for explores ++ (name ++ 32 ∷ words) → name ≡ codes "tally" → tally_of explores words ≡ Some s → SaysStart line s
-says_tally explores name words line s whole named e = grind (arith, tally_is explores words s e)
+says_tally explores name words line s whole named e =
+    let w = tally_is explores words s e in
+    let n = w.0 in (
+      record { some = n.some; few = n.few; faults = n.faults; param = omega (arith, w.1); tally = λ t. w.1; explored = n.fits },
+      rw (whole, named, n.word, w.2, n.kind_is) refl,
+    )
 
 says_kind : (explores : Bool) (name words line : List ℕ) (s : Start) → line ≡ word_for explores ++ (name ++ 32 ∷ words) → start_of_kind explores name words ≡ Some s → SaysStart line s
 unfolding start_of_kind
 says_kind explores name words line s whole e =
-    chosen name (codes "ring") _ _ s (λ named is. says_with_param explores Ring (codes "ring") name words line s (λ no. cc) (λ n f param e. refl) whole named is)
-    (chosen name (codes "echo") _ _ s (λ named is. says_with_param explores Echo (codes "echo") name words line s (λ no. cc) (λ n f param e. refl) whole named is)
+    chosen name (codes "ring") _ _ s (λ named is. says_with_param explores Ring (codes "ring") name words line s (λ no. cc) (λ is. rw is refl) whole named is)
+    (chosen name (codes "echo") _ _ s (λ named is. says_with_param explores Echo (codes "echo") name words line s (λ no. cc) (λ is. rw is refl) whole named is)
     (chosen name (codes "tally") _ None s (λ named is. says_tally explores name words line s whole named is)
     (λ no. absurd (none-some s no)))) e
 

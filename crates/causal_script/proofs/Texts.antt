@@ -25,7 +25,7 @@ pub lines_cut : (xs : List ℕ) (parts : List ℕ × List ℕ) → split_at_byte
 lines_cut [] parts e = absurd (none-some parts e)
 lines_cut (x ∷ xs) parts e = grind (arith, lines_cut xs)
 
-lines_uncut : (x : ℕ) (xs : List ℕ) → split_at_byte 10 (x ∷ xs) ≡ None → script_lines (x ∷ xs) ≡ (x ∷ xs) ∷ []
+pub lines_uncut : (x : ℕ) (xs : List ℕ) → split_at_byte 10 (x ∷ xs) ≡ None → script_lines (x ∷ xs) ≡ (x ∷ xs) ∷ []
 lines_uncut x [] e = grind arith
 lines_uncut x (y ∷ ys) e = grind (arith, lines_uncut y ys)
 
@@ -68,11 +68,6 @@ line_here (suc count) (k ∷ ls) l rest e = line_here count ls l rest e
 -- if no lines remain, the text has at most as many lines as were read
 pub line_past : {X : Type 0} (count : ℕ) (ls : List X) → drop count ls ≡ [] → length ls ≤ count
 line_past count ls e = omega (arith, length-drop count ls, ap length e)
-
--- only an empty text has no lines
-pub no_lines : (xs : List ℕ) → script_lines xs ≡ [] → xs ≡ []
-no_lines [] e = refl
-no_lines (x ∷ xs) e = absurd (omega (arith, feeds_below 0 (x ∷ xs), ap length e))
 
 -- ---- errors of a line
 
