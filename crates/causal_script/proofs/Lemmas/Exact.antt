@@ -16,11 +16,9 @@ use Rattle.causal_script.specs.Spelling.{max_script, ScriptContent, IsStart, IsR
 use Rattle.causal_script.specs.Faults.{IsInPlace, IsFaultAfterLines, IsFirstScriptFault}
 use Rattle.causal_script.specs.Inside.Reading.{split_at_byte, parse_request, start_of}
 use Rattle.causal_script.specs.Inside.Place.{IsBigLine, line_or_fault, IsAfter, AreCommands, AreOnLines}
-use Rattle.causal_script.proofs.CommandLines.{request_back, commanded, not_commanded, says_request}
-use Rattle.causal_script.proofs.Starts.{start_back, started, not_started, says_start}
-use Rattle.causal_script.proofs.Texts.{lines_cut, lines_uncut, line_here, judged_ok, sound_none, first_fault, after_none, after_more, commands_more, reaches_more, command_fault}
-use Rattle.causal_script.proofs.Cuts.{cut_shorter}
-use Rattle.causal_script.proofs.Scripts.{empty_fault, spelled}
+use Rattle.causal_script.proofs.Starts.{request_back, commanded, not_commanded, says_request, start_back, started, not_started, says_start}
+use Rattle.causal_script.proofs.Texts.{lines_cut, lines_uncut, line_here, judged_ok, sound_none, first_fault, after_none, after_more, commands_more, reaches_more, command_fault, empty_fault, spelled}
+use Rattle.causal_script.proofs.Numbers.{cut_shorter}
 
 -- ---- at most one script
 

@@ -1,7 +1,7 @@
 use Rattle.std.proofs.Common.{eqb, Some, None, refl, rules, tests}
 use Rattle.std.proofs.lemmas.Iterator.{YieldsList-from_slice}
 use Rattle.std.proofs.lemmas.Iterator.Search.{position_from_yields_List}
-use Rattle.causal_script.proofs.Cuts.{cut_found, cut_slices}
+use Rattle.causal_script.proofs.Numbers.{cut_found, cut_slices}
 use Rattle.causal_script.proofs.tokens.split_at_byte.Goals as goal
 
 pub returns-in_err-at : goal.returns-in_err-at
