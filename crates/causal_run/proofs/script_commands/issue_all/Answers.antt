@@ -6,7 +6,7 @@ use Rattle.causal_shared.specs.declared.item.Item.{Item}
 use Rattle.causal_script.specs.declared.script.Command.{Command}
 use Rattle.causal_run.specs.Runs.{spares_for, spares_in}
 use Rattle.causal_run.specs.Inside.IssuedRequests.{ArePerformed}
-use Rattle.causal_run.proofs.Asks.{done_more, spares_left, stopped}
+use Rattle.causal_run.proofs.Histories.{done_more, spares_left, stopped}
 use Rattle.causal_run.proofs.script_commands.issue_all.Goals as goal
 
 -- the result of an iterator that is read past its end
