@@ -13,8 +13,6 @@ use Rattle.causal_text.proofs.Spellings.{IsPlaceAfter-next, after_lines-append, 
 use Rattle.std.specs.Prelude.{sum_by}
 use Rattle.std.proofs.lemmas.List.Sums.{sum_by-cons}
 use Rattle.causal_text.specs.declared.stream.State.TheVariants as state
-use Rattle.causal_text.specs.declared.stream.Progress.TheVariants as progress
-use Rattle.causal_text.specs.declared.stream.ReaderFault.TheVariants as fault
 use Rattle.causal_line.specs.Stages.{max_text_len}
 use Rattle.causal_text.specs.Streams.{HasReadWithin}
 

@@ -1,10 +1,9 @@
 -- Reading is unique: the first error of a text is the one that reading returns.
-use Rattle.std.proofs.Common.{arith, ◌≡◌, ℕ, ◌+◌, List, [], ◌∷◌, length, Err, inl, inr, ap, ap₂, sym, ◌∙◌}
+use Rattle.std.proofs.Common.{arith, ◌≡◌, ℕ, ◌+◌, List, [], ◌∷◌, length, Err, inl, inr, ap, sym, ◌∙◌}
 use Rattle.causal_trace.specs.Rows.{Recording}
 use Rattle.causal_line.specs.declared.kind.TextKind.TheVariants as kind
 use Rattle.causal_line.specs.declared.kind.TextFault.{TextFault}
 use Rattle.causal_line.specs.declared.stage.Stage.{Stage}
-use Rattle.causal_line.specs.declared.stage.Stage.TheVariants.{Opening, Within, Ended}
 use Rattle.causal_line.specs.Lines.{lines}
 use Rattle.causal_lines.specs.ReadPositions.{ReadPosition, start_position, position_after, finish_at, IsOpen}
 use Rattle.causal_text.specs.Inside.LineByLine.{read_text}

@@ -1,4 +1,4 @@
-use Rattle.std.proofs.Common.{rules, arith, ap, sym, subst, ◌≡◌, ◌∙◌, ◌++◌, ◌∷◌, [], length, append-nil, append_assoc, refl}
+use Rattle.std.proofs.Common.{rules, arith, ap, sym, subst, ◌∙◌, ◌++◌, ◌∷◌, [], length, append-nil, append_assoc, refl}
 use Rattle.std.proofs.lemmas.Result.{IfOk-weaker, IfErr-weaker}
 use Rattle.std.specs.Vec.Iter.{into_iter_items}
 use Rattle.causal_text.specs.Inside.Chunks.{AreParsed, bytes_of}
