@@ -1,5 +1,5 @@
 -- Splitting a text at the first occurrence of a byte, and the decimal spelling of a number.
-use Rattle.std.proofs.Common.{ne_eqb, zero, suc, take, drop, eqb, ◌≡◌, ℕ, ◌+◌, ◌-◌, ◌<◌, List, [], ◌∷◌, ◌++◌, length, Bool, true, false, cond, Option, Some, None, refl, ap, sym, ◌∙◌, arith, length-append, ◌≢◌, ◌⊎◌, ◌≤◌, ◌^◌, get_or, leb, Result, Ok, Err, subst, decimal}
+use Rattle.std.proofs.Common.{ne_eqb, zero, suc, take, drop, eqb, ◌≡◌, ℕ, ◌<◌, List, [], ◌∷◌, ◌++◌, length, Bool, true, false, cond, Option, Some, None, refl, ap, sym, ◌∙◌, arith, length-append, ◌≢◌, ◌⊎◌, ◌≤◌, ◌^◌, get_or, leb, Result, Ok, Err, subst, decimal}
 use Rattle.std.proofs.lemmas.Bool.{eqb-true, eq-eqb, and_parts, leb-true}
 use Rattle.std.proofs.lemmas.Option.{none-some, gets, cond_some}
 use Rattle.causal_script.specs.Inside.Reading.{split_at_byte, is_plain_number, parse_number, parse_process, parse_count}
