@@ -1,6 +1,3 @@
-mod Asks
-mod Explorations
 mod Histories
 mod Objects
-mod Refusals
 mod Starts

@@ -1,7 +1,4 @@
 mod Lemmas
-mod CommandLines
-mod Cuts
 mod Numbers
-mod Scripts
 mod Starts
 mod Texts

@@ -1,18 +1,52 @@
--- A number and its decimal spelling.
-use Rattle.std.proofs.Common.{◌≡◌, ◌≢◌, ◌⊎◌, ℕ, ◌<◌, ◌≤◌, ◌^◌, List, [], ◌∷◌, ◌++◌, length, get_or, Bool, true, false, cond, leb, Option, Some, None, Result, Ok, Err, refl, ap, sym, ◌∙◌, subst, arith, decimal}
-use Rattle.std.specs.Prelude.{slice_get, ◌&&◌, nat_le}
+-- Splitting a text at the first occurrence of a byte, and the decimal spelling of a number.
+use Rattle.std.proofs.Common.{ne_eqb, zero, suc, take, drop, eqb, ◌≡◌, ℕ, ◌<◌, List, [], ◌∷◌, ◌++◌, length, Bool, true, false, cond, Option, Some, None, refl, ap, sym, ◌∙◌, arith, length-append, ◌≢◌, ◌⊎◌, ◌≤◌, ◌^◌, get_or, leb, Result, Ok, Err, subst, decimal}
+use Rattle.std.proofs.lemmas.Bool.{eqb-true, eq-eqb, and_parts, leb-true}
+use Rattle.std.proofs.lemmas.Option.{none-some, gets, cond_some}
+use Rattle.causal_script.specs.Inside.Reading.{split_at_byte, is_plain_number, parse_number, parse_process, parse_count}
+use Rattle.std.specs.Prelude.{slice_get, ◌&&◌, nat_le, IsUtf8, if◌then◌else◌, OkIff}
 use Rattle.std.specs.Str.{all_ascii_digits}
 use Rattle.std.specs.Str.Parse.{digits_value, ParsesUnsigned}
-use Rattle.std.proofs.lemmas.Bool.{eqb-true, eq-eqb, and_parts, leb-true}
 use Rattle.std.proofs.lemmas.Bool.Decides.{nat_tests}
 use Rattle.std.proofs.lemmas.Str.Parse.{IsNumeralModel, numerals_by_value, tells_all_ascii_digits, parse_plain}
-use Rattle.std.specs.Prelude.{IsUtf8, if◌then◌else◌, OkIff}
 use Rattle.std.proofs.lemmas.Str.{IsUtf8-from_ascii}
 use Rattle.std.proofs.lemmas.Fmt.{IsAscii-decimal, digits_decimal, digits_value-decimal, decimal-digits_value, decimal_nonempty, first_decimal, decimal_digit}
-use Rattle.std.proofs.lemmas.Option.{none-some, same_Some, gets, cond_some}
 use Rattle.causal_name.specs.declared.Pid.{Pid}
-use Rattle.causal_script.specs.Inside.Reading.{split_at_byte, is_plain_number, parse_number, parse_process, parse_count}
-use Rattle.causal_script.proofs.Cuts.{Lacks, cut_front}
+
+-- the byte does not occur
+abbrev pub Lacks : ℕ → List ℕ → Type 0
+Lacks byte [] = Unit {0}
+Lacks byte (x ∷ xs) = (eqb x byte ≡ false) × Lacks byte xs
+
+-- a text is split at a byte that does not occur before it
+pub cut_front : (byte : ℕ) (xs ys : List ℕ) → Lacks byte xs → split_at_byte byte (xs ++ byte ∷ ys) ≡ Some (xs, ys)
+cut_front byte [] ys h = let same : eqb byte byte ≡ true = eq-eqb byte byte refl in rw same refl
+cut_front byte (x ∷ xs) ys h = rw (h.0, cut_front byte xs ys h.1) refl
+
+-- a split text is the front, the byte and the rest
+pub cut_whole : (byte : ℕ) (xs : List ℕ) (parts : List ℕ × List ℕ) → split_at_byte byte xs ≡ Some parts → xs ≡ parts.0 ++ byte ∷ parts.1
+cut_whole byte [] parts e = absurd (none-some parts e)
+cut_whole byte (x ∷ xs) parts e = grind (arith, cut_whole byte xs, eqb-true x byte)
+
+-- one more byte that is not this byte
+pub lacks_more : (byte : ℕ) (xs : List ℕ) (i : ℕ) → i < length xs → get_or xs i 0 ≢ byte → Lacks byte (take i xs) → Lacks byte (take (suc i) xs)
+lacks_more byte [] i h ne l = tt
+lacks_more byte (x ∷ xs) zero h ne l = (ne_eqb x byte ne, tt)
+lacks_more byte (x ∷ xs) (suc i) h ne l = (l.0, lacks_more byte xs i (omega arith) ne l.1)
+
+-- a text is split at the first index of the byte
+pub cut_at : (byte : ℕ) (xs : List ℕ) (i : ℕ) → i < length xs → get_or xs i 0 ≡ byte → Lacks byte (take i xs) → split_at_byte byte xs ≡ Some (take i xs, drop (suc i) xs)
+cut_at byte [] i h e l = absurd (omega arith)
+cut_at byte (x ∷ xs) zero h e l = rw (eq-eqb x byte e) refl
+cut_at byte (x ∷ xs) (suc i) h e l = rw (l.0, cut_at byte xs i (omega arith) e l.1) refl
+
+-- a text without the byte is not split
+pub cut_none : (byte : ℕ) (xs : List ℕ) → Lacks byte xs → split_at_byte byte xs ≡ None
+cut_none byte [] h = refl
+cut_none byte (x ∷ xs) h = rw (h.0, cut_none byte xs h.1) refl
+
+-- the part after the byte is shorter than the text
+pub cut_shorter : (byte : ℕ) (xs : List ℕ) (parts : List ℕ × List ℕ) → split_at_byte byte xs ≡ Some parts → length parts.1 < length xs
+cut_shorter byte xs parts e = grind (arith, cut_whole byte xs parts e, length-append parts.0 (byte ∷ parts.1))
 
 -- digits spell the number that is their value
 pub own : IsNumeralModel (λ ds. all_ascii_digits ds ≡ true) (digits_value 10)

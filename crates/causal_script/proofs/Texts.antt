@@ -1,22 +1,23 @@
 -- Reading the lines of a text one after another.
-use Rattle.std.proofs.Common.{◌≡◌, ◌⊎◌, inl, inr, ℕ, zero, suc, ◌+◌, ◌<◌, ◌≤◌, List, [], ◌∷◌, ◌++◌, length, take, drop, map, Bool, true, false, cond, eqb, Option, Some, None, Result, Ok, Err, refl, ap, sym, ◌∙◌, subst, arith}
+use Rattle.std.proofs.Common.{map, ◌≡◌, ◌⊎◌, inl, inr, ℕ, zero, suc, ◌+◌, ◌<◌, ◌≤◌, List, [], ◌∷◌, ◌++◌, length, take, drop, Bool, true, false, cond, eqb, Option, Some, None, Result, Ok, Err, refl, ap, sym, ◌∙◌, subst, arith}
 use Rattle.std.specs.Prelude.{slice_get, is_ok, is_err, min, ◌-◌, ◌^◌}
 use Rattle.std.specs.List.{onto_first, AllByRecursion, range_with_len}
 use Rattle.std.proofs.Math.Seq.{take-length}
 use Rattle.std.proofs.lemmas.List.Sums.{sum_by-cons}
 use Rattle.std.proofs.lemmas.Bool.{eqb-true, eq-eqb, cases_lt}
 use Rattle.std.proofs.lemmas.Option.{none-some, slice_get_within}
-use Rattle.std.proofs.lemmas.List.{map-append, map-id, append_assoc, length-drop, length_push, drop_all}
+use Rattle.std.proofs.lemmas.List.{map-append, map-id, append_assoc, length-drop, length_push, drop_all, append-nil, length-map}
 use Rattle.std.proofs.lemmas.List.FromFn.{map-range_with_len_more}
 use Rattle.causal_script.specs.declared.script.Command.{Command}
 use Rattle.causal_script.specs.declared.script.ScriptFault.{ScriptFault}
 use Rattle.causal_script.specs.declared.script.ScriptFaultKind.{ScriptFaultKind}
 use Rattle.causal_script.specs.declared.script.ScriptFaultKind.TheVariants.{Big, Script, NoMemory}
 use Rattle.causal_script.specs.Lines.{is_feed, script_lines, count_line_feeds}
-use Rattle.causal_script.specs.Spelling.{max_script, command_line, IsRequest}
+use Rattle.causal_script.specs.Spelling.{max_script, command_line, IsRequest, IsStart, SpellsScript, start_line}
 use Rattle.causal_script.specs.Faults.{IsCommandLine, IsInPlace, IsFaultAfterLines, AreSound, IsFirstScriptFault, IsScriptReadUpTo}
 use Rattle.causal_script.specs.Inside.Reading.{split_at_byte}
 use Rattle.causal_script.specs.Inside.Place.{IsBigLine, is_line, line_or_fault, IsAfter, AreCommands, AreOnLines}
+use Rattle.causal_script.specs.declared.start.Start.{Start}
 
 -- ---- the first line and the rest
 
@@ -25,7 +26,7 @@ pub lines_cut : (xs : List ℕ) (parts : List ℕ × List ℕ) → split_at_byte
 lines_cut [] parts e = absurd (none-some parts e)
 lines_cut (x ∷ xs) parts e = grind (arith, lines_cut xs)
 
-lines_uncut : (x : ℕ) (xs : List ℕ) → split_at_byte 10 (x ∷ xs) ≡ None → script_lines (x ∷ xs) ≡ (x ∷ xs) ∷ []
+pub lines_uncut : (x : ℕ) (xs : List ℕ) → split_at_byte 10 (x ∷ xs) ≡ None → script_lines (x ∷ xs) ≡ (x ∷ xs) ∷ []
 lines_uncut x [] e = grind arith
 lines_uncut x (y ∷ ys) e = grind (arith, lines_uncut y ys)
 
@@ -69,11 +70,6 @@ line_here (suc count) (k ∷ ls) l rest e = line_here count ls l rest e
 pub line_past : {X : Type 0} (count : ℕ) (ls : List X) → drop count ls ≡ [] → length ls ≤ count
 line_past count ls e = omega (arith, length-drop count ls, ap length e)
 
--- only an empty text has no lines
-pub no_lines : (xs : List ℕ) → script_lines xs ≡ [] → xs ≡ []
-no_lines [] e = refl
-no_lines (x ∷ xs) e = absurd (omega (arith, feeds_below 0 (x ∷ xs), ap length e))
-
 -- ---- errors of a line
 
 -- a line without an error is within the limit and was parsed
@@ -115,13 +111,10 @@ sound_more text count next is sound small place before kind below bad = elim (ca
 pub first_fault : {A : Type 0} (text l : List ℕ) (before : ℕ) (big : Option ℕ) (said : Option A) (f : ScriptFault)
     → IsBigLine text big → AreSound text before → slice_get (script_lines text) before ≡ Some l → (said ≡ None → IsInPlace before (Some l) → ⊥)
     → line_or_fault big (before + 1) said ≡ Err f → IsFirstScriptFault text f
-first_fault text l before big said f bigs sound here misplaced e = by_cases (judged_err big (before + 1) said f e) where
-  told : (kind : ScriptFaultKind) → f ≡ Fault (before + 1) kind → IsFaultAfterLines text before kind → (kind ≡ Script → IsFaultAfterLines text before Big → ⊥) → IsFirstScriptFault text f
-  told kind is faulty first = subst (λ (g : ScriptFault). IsFirstScriptFault text g) (sym is) (record { before = before; number = refl; sound = sound; faulty = faulty; big_first = first })
-
-  by_cases : ((is_line (before + 1) big ≡ true) × (f ≡ Fault (before + 1) Big)) ⊎ ((is_line (before + 1) big ≡ false) × (said ≡ None) × (f ≡ Fault (before + 1) Script)) → IsFirstScriptFault text f
-  by_cases (inl h) = told Big h.1 (is_big text big before bigs h.0) (λ is. absurd (let no : Big ≡ Script = is in cc))
-  by_cases (inr h) = told Script h.2 (λ place. misplaced h.1 (subst (λ (o : Option (List ℕ)). IsInPlace before o) here place)) (λ is. not_big text big before bigs h.0)
+first_fault text l before big said f bigs sound here misplaced e = elim (judged_err big (before + 1) said f e) [
+  | inl h ↦ rw h.1 (record { before = before; number = refl; sound = sound; faulty = is_big text big before bigs h.0; big_first = λ is. absurd (let no : Big ≡ Script = is in cc) })
+  | inr h ↦ rw h.2 (record { before = before; number = refl; sound = sound; faulty = λ place. misplaced h.1 (rw here at place); big_first = λ is. not_big text big before bigs h.0 })
+]
 
 -- ---- the part of the text that was read
 
@@ -207,3 +200,12 @@ pushed r new more old told e = grind arith
 -- line numbers do not reach the saturation limit, so the next number is one higher
 pub next_line : (text left : List ℕ) (line next : ℕ) → IsAfter text line left → next ≡ min (line + 1) (2 ^ 32 - 1) → next ≡ line + 1
 next_line text left line next a e = let small : line ≤ 1048576 = count_small text left line a in omega arith
+
+-- a text that was parsed to its end spells the parsed start and commands
+pub spelled : (text first rest : List ℕ) (s : Start) (commands : List Command) (line : ℕ) → script_lines text ≡ first ∷ script_lines rest → IsStart s → first ≡ start_line s
+    → AreCommands rest commands [] → AreOnLines text commands line [] → SpellsScript text (record { start = s; commands = commands })
+spelled text first rest s commands line split start is read r = grind (arith, append-nil, whole_within, length-map, length_lines)
+
+-- the first error of an empty text is its missing first line
+pub empty_fault : (text : List ℕ) → text ≡ [] → IsFirstScriptFault text (record { line = 1; kind = Script })
+empty_fault text is = grind (arith, sound_none [])

@@ -1,5 +1,5 @@
 -- The recordings of a text's prefixes, and the state after its first bytes.
-use Rattle.std.proofs.Common.{◌≡◌, ◌<◌, ◌++◌, ◌∙◌, ◌⊎◌, inl, inr, refl, sym, ap, subst, arith, ℕ, List, [], ◌∷◌, true, false, length, length-append, Ok, Err, append_assoc, append-nil}
+use Rattle.std.proofs.Common.{◌≡◌, ◌<◌, ◌++◌, ◌∙◌, ◌⊎◌, inl, inr, refl, sym, ap, arith, ℕ, List, [], ◌∷◌, true, false, length, length-append, Err, append_assoc, append-nil}
 use Rattle.std.proofs.lemmas.Option.{IfSome_then}
 use Rattle.std.specs.Prelude.{Option, Some, None, IfSome, IfNone}
 use Rattle.causal_trace.specs.Rows.{Recording}
@@ -9,15 +9,14 @@ use Rattle.causal_line.specs.declared.stage.Stage.TheVariants.{Within}
 use Rattle.causal_text.specs.Prefixes.{SpellsLines, SpellsSoFar, HasPrefixSpelling}
 use Rattle.causal_text.specs.PushReaders.{HasReceived}
 use Rattle.causal_line.specs.Lines.{lines, no_feed, IsComplete}
-use Rattle.causal_lines.specs.ReadPositions.{ReadPosition, start_position, position_after, recording_at}
+use Rattle.causal_lines.specs.ReadPositions.{start_position, position_after, recording_at}
 use Rattle.causal_text.specs.Pieces.{AreComplete, concat_lines, PieceState, RepresentsBytes}
 use Rattle.causal_text.specs.Spelling.{LeadsTo}
 use Rattle.causal_line.specs.Refusals.{IsWithinText}
-use Rattle.causal_text.specs.Inside.LineByLine.{after_lines}
 use Rattle.causal_text.specs.Inside.PartialLines.{IsLimitFault}
-use Rattle.causal_text.proofs.Complete.{after_lines-append, after_lines-place, Leads-reached}
+use Rattle.causal_text.proofs.Spellings.{after_lines-append, after_lines-place, Leads-reached}
 use Rattle.causal_text.proofs.Feeds.{grown, joined-append, lines_held, lines_joined, StandsFor-hold}
-use Rattle.causal_line.proofs.Lemmas.CompleteLines.{lines_complete, lines_rest, lines_grown, IsComplete-append}
+use Rattle.causal_line.proofs.Lemmas.CompleteLines.{lines_complete, lines_rest, IsComplete-append}
 
 -- ---- two ways to split the same lines
 

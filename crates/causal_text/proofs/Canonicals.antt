@@ -1,6 +1,6 @@
 -- The canonical text of a recording spells it.
-use Rattle.std.proofs.Common.{◌≡◌, ℕ, ◌<◌, ◌≤◌, ◌^◌, List, [], ◌∷◌, ◌++◌, length, Bool, true, false, cond, Some, Ok, refl, ap, ap₂, sym, ◌∙◌, arith, append_assoc, length-append}
-use Rattle.std.specs.Prelude.{flat_map, map, reverse, nat_le, ◌&&◌}
+use Rattle.std.proofs.Common.{◌≡◌, ℕ, ◌<◌, ◌≤◌, ◌^◌, List, [], ◌∷◌, ◌++◌, length, true, Some, Ok, refl, ap, sym, ◌∙◌, arith, length-append}
+use Rattle.std.specs.Prelude.{flat_map, map, reverse}
 use Rattle.std.specs.List.{list_all}
 use Rattle.std.proofs.lemmas.Bool.{and_parts}
 use Rattle.std.proofs.lemmas.List.{reverse-append}
@@ -17,14 +17,11 @@ use Rattle.causal_line.specs.Stages.{lines_up_to}
 use Rattle.causal_lines.specs.Canonical.{parsed_line_text, line_text, canonical_version}
 use Rattle.causal_trace.specs.Rows.{Recording}
 use Rattle.causal_trace.specs.Sizes.{EntriesAreBounded, NumbersAreBounded, LimitsAreKept}
-use Rattle.causal_line.specs.declared.version.Version.{Version}
 use Rattle.causal_line.specs.declared.version.Version.TheVariants.{One, Two}
-use Rattle.causal_line.specs.Versions.{version_number, allows, AllowsAll, FitsVersion}
+use Rattle.causal_line.specs.Versions.{allows, AllowsAll, FitsVersion}
 use Rattle.causal_text.specs.Laws.{CanonicalTextReadsBack}
 use Rattle.causal_text.proofs.Sizes.{length-canonical}
-use Rattle.causal_text.proofs.ReadsBack.{read-compact_text}
-use Rattle.causal_text.proofs.ShapeData.{data_of, shape_compact, shape_back, shape_simple, shape_shallow, ShapeFits}
-use Rattle.causal_text.proofs.Plain.{plain_shape, plain_utf8, plain_no_feed}
+use Rattle.causal_text.proofs.ShapeData.{read-compact_text, data_of, shape_compact, shape_back, shape_simple, shape_shallow, ShapeFits, plain_shape, plain_utf8, plain_no_feed}
 use Rattle.causal_line.proofs.Lemmas.CompleteLines.{lines_complete}
 use Rattle.causal_line.proofs.Lemmas.Values.{json_of-utf8}
 

@@ -1,6 +1,6 @@
 -- Parsed lines of a chunk, one after another.
-use Rattle.std.proofs.Common.{arith, ◌≡◌, ℕ, List, [], ◌∷◌, ◌++◌, Result, Ok, Err, ap, sym, subst, ◌∙◌, append_assoc, append-nil}
-use Rattle.std.specs.Prelude.{IfOk, IfErr}
+use Rattle.std.proofs.Common.{arith, ◌≡◌, ℕ, List, [], ◌∷◌, ◌++◌, length, ap, sym, subst, ◌∙◌, append_assoc, append-nil}
+use Rattle.std.proofs.lemmas.List.{nil_from_length}
 use Rattle.causal_line.specs.declared.text_refusal.TextRefusal.{TextRefusal}
 use Rattle.causal_text.specs.FaultContexts.{IsTrueRefusalWithin, IsTrueRefusalAlways}
 use Rattle.causal_text.specs.PushReaders.{PushReaderState, HasReceived}
@@ -31,15 +31,6 @@ Receives first bytes second = (most : ℕ) (b : List ℕ) → HasReceived most f
 pub one_received : (first second third : PushReaderState) (done line : List ℕ) → Receives first done second → Receives second line third → Receives first (done ++ line) third
 one_received first second third done line before then most b s = subst (λ xs. HasReceived most third xs) (append_assoc b done line) (then most (b ++ done) (before most b s))
 
--- a line that was not read in place, and then was
-pub left_received : (first second third : PushReaderState) (line left : List ℕ) → second ≡ first → left ≡ line → Receives second left third → Receives first line third
-left_received first second third line left same bytes read = subst (λ r. Receives r line third) same (subst (λ xs. Receives second xs third) bytes read)
-
--- the same, if it was refused
-pub left_refused : (most : ℕ) (first second : PushReaderState) (b line left : List ℕ) (rejected : TextRefusal) → second ≡ first → left ≡ line → HasReceived most first b
-    → (HasReceived most second b → IsTrueRefusalAlways most (b ++ left) rejected) → IsTrueRefusalAlways most (b ++ line) rejected
-left_refused most first second b line left rejected same bytes s h = subst (λ xs. IsTrueRefusalAlways most (b ++ xs) rejected) bytes (h (subst (λ r. HasReceived most r b) (sym same) s))
-
 -- the next line of the chunk
 pub next_line : (whole done : List ℕ) (l : ChunkLine) (now after : List ChunkLine) → whole ≡ done ++ bytes_of now → now ≡ l ∷ after → whole ≡ (done ++ l.bytes.now) ++ bytes_of after
 next_line whole done l now after is next = is ∙ ap (λ ls. done ++ bytes_of ls) next ∙ sym (append_assoc done l.bytes.now (bytes_of after))
@@ -47,27 +38,9 @@ next_line whole done l now after is next = is ∙ ap (λ ls. done ++ bytes_of ls
 -- the refusal of a line is that of the chunk
 pub refused_in : (most : ℕ) (b whole done line after rest : List ℕ) (rejected : TextRefusal) → whole ≡ (done ++ line) ++ after → IsTrueRefusalAlways most ((b ++ done) ++ line) rejected → IsTrueRefusalAlways most (b ++ (whole ++ rest)) rejected
 refused_in most b whole done line after rest rejected is h more =
-    let same : ((b ++ done) ++ line) ++ ((after ++ rest) ++ more) ≡ (b ++ (whole ++ rest)) ++ more =
-    grind (
-      arith,
-      append_assoc b done line,
-      append_assoc b (done ++ line) ((after ++ rest) ++ more),
-      append_assoc after rest more,
-      append_assoc b (whole ++ rest) more,
-      append_assoc whole rest more,
-      append_assoc (done ++ line) after (rest ++ more),
-    ) in
+    let same : ((b ++ done) ++ line) ++ ((after ++ rest) ++ more) ≡ (b ++ (whole ++ rest)) ++ more = rw is (simp append_assoc) in
     subst (λ text. IsTrueRefusalWithin most text rejected) same (h ((after ++ rest) ++ more))
 
--- after all lines, the bytes behind them
-pub rest_received : (first second : PushReaderState) (whole done rest : List ℕ) (r : Result PushReaderState TextRefusal) → whole ≡ done ++ [] → Receives first done second → IfOk r (λ third. Receives second rest third)
-    → IfOk r (λ third. Receives first (whole ++ rest) third)
-rest_received first second whole done rest (Ok third) is before then = rw (is, append-nil done) (one_received first second third done rest before then)
-rest_received first second whole done rest (Err rejected) is before then = tt
-
-pub rest_refused : (first second : PushReaderState) (whole done rest : List ℕ) (r : Result PushReaderState TextRefusal) → whole ≡ done ++ [] → Receives first done second
-    → IfErr r (λ rejected. (most : ℕ) (b : List ℕ) → HasReceived most second b → IsTrueRefusalAlways most (b ++ rest) rejected)
-    → IfErr r (λ rejected. (most : ℕ) (b : List ℕ) → HasReceived most first b → IsTrueRefusalAlways most (b ++ (whole ++ rest)) rejected)
-rest_refused first second whole done rest (Ok third) is before then = tt
-rest_refused first second whole done rest (Err rejected) is before then = λ most b s.
-    subst (λ xs. IsTrueRefusalAlways most xs rejected) (append_assoc b done rest ∙ ap (λ xs. b ++ (xs ++ rest)) (sym (is ∙ append-nil done))) (then most (b ++ done) (before most b s))
+-- after the last line, all lines of the chunk were read
+pub all_read : (done : List ℕ) (now ls first : List ChunkLine) → first ≡ ls → bytes_of first ≡ done ++ bytes_of now → length now ≡ 0 → bytes_of ls ≡ done
+all_read done now ls first began is none = sym (ap bytes_of began) ∙ is ∙ ap (λ ks. done ++ bytes_of ks) (nil_from_length now none) ∙ append-nil done

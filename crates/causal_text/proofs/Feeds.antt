@@ -1,16 +1,20 @@
--- The lines of a text in pieces.
-use Rattle.std.proofs.Common.{◌≡◌, ℕ, ◌+◌, ◌<◌, List, [], ◌∷◌, ◌++◌, length, true, Result, Ok, Err, refl, ap, sym, ◌∙◌, arith, append_assoc, append-nil, subst}
+-- The lines of a text in pieces, and the bytes that a reader of pieces has read.
+use Rattle.std.proofs.Common.{◌≡◌, ℕ, ◌+◌, ◌<◌, List, [], ◌∷◌, ◌++◌, length, true, Result, Ok, Err, refl, ap, sym, ◌∙◌, arith, append_assoc, append-nil, ◌≤◌, length-append}
 use Rattle.causal_line.specs.declared.kind.TextFault.{TextFault}
 use Rattle.causal_line.specs.Lines.{lines, no_feed, IsComplete}
 use Rattle.causal_line.proofs.Lemmas.CompleteLines.{no_feed-append, IsComplete-append, lines_complete, lines_grown, lines_rest}
-use Rattle.causal_text.specs.Spelling.{IsReadUpTo, IsReadAt}
-use Rattle.causal_lines.specs.ReadPositions.{ReadPosition, start_position, position_after, finish_at}
+use Rattle.causal_text.specs.Spelling.{IsReadAt}
+use Rattle.causal_lines.specs.ReadPositions.{ReadPosition, start_position, position_after}
 use Rattle.causal_line.specs.Reading.{◌>>=◌}
 use Rattle.causal_text.specs.Inside.LineByLine.{after_lines, read_text}
 use Rattle.causal_text.specs.Pieces.{AreComplete, concat_lines, PieceState, RepresentsBytes}
-use Rattle.causal_text.specs.Inside.PartialLines.{IsFaultOfAll, with_line, IsLimitFault, last_place, finish_reading}
-use Rattle.causal_text.proofs.Spellings.{IsPlaceAfter-next}
-use Rattle.causal_text.proofs.Complete.{after_lines-append, after_lines-place}
+use Rattle.causal_text.specs.Inside.PartialLines.{IsFaultOfAll, with_line, IsLimitFault, last_place, finish_reading, FitsLimit}
+use Rattle.causal_text.proofs.Spellings.{IsPlaceAfter-next, after_lines-append, after_lines-place}
+use Rattle.std.specs.Prelude.{sum_by}
+use Rattle.std.proofs.lemmas.List.Sums.{sum_by-cons}
+use Rattle.causal_text.specs.declared.stream.State.TheVariants as state
+use Rattle.causal_line.specs.Stages.{max_text_len}
+use Rattle.causal_text.specs.Streams.{HasReadWithin}
 
 -- ---- lists of lines
 
@@ -138,3 +142,17 @@ line_of_part most h0 h done left b line c s is = rw (← append_assoc b done lef
 -- an error that a partial line has, whatever follows, it has at the end of the text
 pub faulty_line : (most : ℕ) (h : PieceState) (line : List ℕ) (f : TextFault) → IsLimitFault most (record { place = h.place; rest = h.rest ++ line }) f → with_line most h line ≡ Err f
 faulty_line most h line f past = grind (arith, append-nil (h.rest ++ line))
+
+length-joined : (ls : List (List ℕ)) → length (concat_lines ls) ≡ sum_by length ls
+length-joined [] = refl
+length-joined (l ∷ ls) = length-append l (concat_lines ls) ∙ ap (λ n. length l + n) (length-joined ls) ∙ sym (sum_by-cons length l ls)
+
+-- the number of known bytes
+length-held : (most : ℕ) (h : PieceState) (bytes : List ℕ) → RepresentsBytes most h bytes → length bytes ≡ h.place.size + length h.rest
+length-held most h bytes st = grind (arith, length-joined st.complete, length-append (concat_lines st.complete) h.rest)
+
+-- a reader whose state represents these bytes, within the text's limit, has read them
+pub read_more : (most : ℕ) (k : PieceState) (bytes : List ℕ) → RepresentsBytes most k bytes → FitsLimit most k → HasReadWithin most (state.Reading k) bytes
+read_more most k bytes st room =
+    let few : k.place.size + length k.rest ≤ max_text_len most = room.within (rw st.place_is.size st.place_is.reaches.within) in
+    (st, omega (arith, few, length-held most k bytes st), room.open_text)

@@ -1,13 +1,13 @@
 -- The canonical text of a recording with bounded numbers is within the limit.
-use Rattle.std.proofs.Common.{◌≡◌, ℕ, ◌+◌, ◌*◌, ◌<◌, ◌≤◌, List, [], ◌∷◌, ◌++◌, length, None, true, refl, sym, arith, length-append, append-nil}
-use Rattle.std.specs.Prelude.{codes, decimal, reverse}
+use Rattle.std.proofs.Common.{◌≡◌, ℕ, ◌+◌, ◌*◌, ◌≤◌, List, [], ◌∷◌, ◌++◌, length, None, true, refl, sym, arith, length-append, append-nil}
+use Rattle.std.specs.Prelude.{decimal, reverse}
 use Rattle.std.proofs.lemmas.Bool.{false≢true}
 use Rattle.std.proofs.lemmas.Fmt.{length-decimal-le}
 use Rattle.std.proofs.lemmas.List.{reverse-append}
 use Rattle.std.proofs.lemmas.List.Concat.{flat_map-append}
 use Rattle.causal_name.specs.declared.Det.{Det}
 use Rattle.causal_trace.specs.declared.entry.Entry.{Entry}
-use Rattle.causal_trace.specs.declared.entry.Entry.TheVariants.{Send, Deliver, Stable, Crash, Restart, Forget}
+use Rattle.causal_trace.specs.declared.entry.Entry.TheVariants.{Deliver, Restart, Forget}
 use Rattle.causal_trace.specs.Past.{listed_by, listed_in}
 use Rattle.causal_trace.specs.declared.fault.TraceFault.TheVariants.{NoSend, NotDown, NoDelivery}
 use Rattle.causal_trace.specs.Rows.{Recording, rows_within, refusal_rows, first_fault, AreLegalEntries, IsWellFormed, FitsLimits}
@@ -15,7 +15,6 @@ use Rattle.causal_trace.proofs.Lemmas.EntryFacts.{row_fails}
 use Rattle.causal_trace.specs.Sizes.{DetIsBounded, DetsAreBounded, EntryIsBounded, EntriesAreBounded}
 use Rattle.causal_line.specs.declared.parsed_line.ParsedLine.TheVariants as parsed
 use Rattle.causal_line.specs.declared.version.Version.{Version}
-use Rattle.causal_line.specs.declared.version.Version.TheVariants.{One, Two}
 use Rattle.causal_spelling.specs.Spelling.{det_text, more_dets_text, dets_text}
 use Rattle.causal_lines.specs.Canonical.{entry_text, entries_text, line_text, canonical_text}
 use Rattle.causal_line.specs.Stages.{max_text_len}

@@ -4,8 +4,8 @@ ghost use Rattle.causal_text.specs.Spelling.{SpellsWithin};
 ghost use Rattle.causal_text.specs.FaultContexts.{ExplainsReadErrorWithin};
 ghost use Rattle.causal_text.specs.Streams.{StopsOnceDecided};
 
-use crate::reader::PieceReader;
-use crate::stream::{PIECE, State, push_piece};
+use crate::push_reader::PushReader;
+use crate::stream::PIECE;
 use causal_line::stage::max_text_len;
 use causal_line::text_refusal::TextRefusal;
 use causal_trace::limits::Limits;
@@ -42,20 +42,21 @@ pub fn read_within<R: Read>(
     ensures stops { StopsOnceDecided limits.entries
         (R.remaining source.old) (R.remaining source.new) }
 {
-    let mut pieces = PieceReader::new(alloc);
+    let mut reader = PushReader::within(alloc, limits);
     let mut buffer = [0u8; PIECE];
     for _i in 0..max_text_len(limits) + 2 {
         let Ok(n) = source.read(&mut buffer) else {
             return Err(ReadError::Source);
         };
-        let state = match push_piece(alloc, limits, pieces, &buffer[..n]) {
-            Ok(state) => state,
+        if n == 0 {
+            return match reader.finish() {
+                Ok(trace) => Ok(trace),
+                Err(rejected) => Err(ReadError::Text(rejected)),
+            };
+        }
+        match reader.feed(&buffer[..n]) {
+            Ok(next) => reader = next,
             Err(rejected) => return Err(ReadError::Text(rejected)),
-        };
-        match state {
-            State::Reading(next) => pieces = next,
-            State::Ended(recorded) => return Ok(recorded.into_trace()),
-            State::Failed => unreachable!(),
         }
     }
     unreachable!()

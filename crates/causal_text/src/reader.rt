@@ -6,21 +6,21 @@ ghost use Rattle.causal_text.specs.FaultContexts.{HasTrueContextWithin};
 ghost use Rattle.causal_line.specs.Refusals.{ReturnsTextRefusal, IsWithinText, IsContextAt};
 ghost use Rattle.causal_text.specs.Inside.Chunks.{IsParsed};
 ghost use Rattle.causal_text.specs.Inside.Contexts.{HasTrueContextAlways};
-ghost use Rattle.causal_text.specs.Inside.LineByLine.{read_text};
 ghost use Rattle.causal_text.specs.Pieces.{RepresentsBytes};
 ghost use Rattle.causal_text.specs.Streams.{HasNothingAfterEnd};
 ghost use Rattle.causal_text.specs.Inside.PartialLines.{IsFaultOfAll, with_line, IsLimitFault, finish_reading, FitsLimit};
 ghost use Rattle.causal_lines.specs.ReadPositions.{recording_at};
-ghost use Rattle.causal_text.specs.Spelling.{Spells, SpellsWithin, IsFirstFault, IsFirstFaultWithin, IsReadUpTo, IsReadAt};
+ghost use Rattle.causal_text.specs.Spelling.{Spells, IsFirstFault, IsReadUpTo, IsReadAt};
 
 use crate::parsed_chunk::ChunkLine;
+use crate::push_reader::PushReader;
 use causal_line::kind::{TextFault, TextKind};
 use causal_line::lines::split_complete;
 use causal_line::parsed_line::ParsedLine;
 use causal_line::text_refusal::TextRefusal;
 use causal_line::trace_builder::TraceBuilder;
 use causal_lines::line_reader::LineReader;
-use causal_trace::limits::{DEFAULT_LIMITS, Limits};
+use causal_trace::limits::Limits;
 use causal_trace::trace::Trace;
 use std::alloc::Global;
 use std::marker::Model;
@@ -268,31 +268,11 @@ pub fn read_trace(alloc: Global, bytes: &[u8]) -> Result<Trace, TextFault>
     ensures memory { IfErr result (λ fault. fault.kind ≡ TextKind.NoMemory
         → IsReadUpTo default_entries bytes.now fault.line) }
 {
-    match read_builder(alloc, DEFAULT_LIMITS, bytes) {
-        Ok(recorded) => Ok(recorded.into_trace()),
-        Err(fault) => Err(fault),
+    match PushReader::new(alloc).feed(bytes) {
+        Ok(reader) => match reader.finish() {
+            Ok(trace) => Ok(trace),
+            Err(rejected) => Err(rejected.into_fault()),
+        },
+        Err(rejected) => Err(rejected.into_fault()),
     }
-}
-
-fn read_builder(alloc: Global, limits: Limits, bytes: &[u8]) -> Result<TraceBuilder, TextFault>
-    ensures ok { IfOk result (λ r. SpellsWithin limits.entries bytes.now r) }
-    ensures err { IfErr result (λ fault. fault.kind ≢ TextKind.NoMemory
-        → IsFirstFaultWithin limits.entries bytes.now fault) }
-    ensures memory { IfErr result (λ fault. fault.kind ≡ TextKind.NoMemory
-        → IsReadUpTo limits.entries bytes.now fault.line) }
-{
-    match read_all(alloc, limits, bytes) {
-        Ok(recorded) => Ok(recorded),
-        Err(rejected) => Err(rejected.fault),
-    }
-}
-
-// reads the whole text as one piece
-fn read_all(alloc: Global, limits: Limits, bytes: &[u8]) -> Result<TraceBuilder, TextRefusal>
-    ensures value { ReturnsTextRefusal result (read_text limits.entries bytes.now) }
-    ensures memory { IfErr result (λ rejected. rejected.fault.kind ≡ TextKind.NoMemory
-        → IsReadUpTo limits.entries bytes.now rejected.fault.line) }
-{
-    let reader = PieceReader::new(alloc).feed(alloc, limits, bytes)?;
-    reader.end(alloc, limits)
 }

@@ -6,6 +6,7 @@ ghost use Rattle.causal_text.specs.Inside.Contexts.{HasTrueContextAfter};
 ghost use Rattle.causal_text.specs.Spelling.{Spells, IsReadAt};
 ghost use Rattle.causal_text.specs.Streams.{HasRead, HasReadWithin, IsReading, HasPiece, IsProgressOf, FoundEnd, IsFaultAfter, HasExplainedFault, HasNoMemoryLine, ExplainsFaultOf, IsNoMemoryLineOf, trace_of_state, IsTraceOfState};
 
+use crate::context_reading::{ReadError, read_within};
 use crate::reader::PieceReader;
 use causal_line::kind::{TextFault, TextKind};
 use causal_line::text_refusal::TextRefusal;
@@ -205,15 +206,12 @@ impl<R: Read + Drop> TraceReader<R> {
     }
 }
 
-// Each piece but the last has a byte, and a text has at most this many bytes, less two.
-const MAX_PIECES: u32 = 33_554_434;
-
 /// Returns the trace that the bytes of a source spell, under the default limits. It reads the source to its end, or
 /// up to the first error. It requests at most 33,554,434 pieces, since each but the last has a byte.
 ///
 /// # Errors
 /// `Read` if the source failed; `Text` with the first error of the text, or with `NoMemory` if an allocation failed.
-pub fn read_from<R: Read + Drop>(alloc: Global, source: R) -> Result<Trace, ReaderFault>
+pub fn read_from<R: Read + Drop>(alloc: Global, mut source: R) -> Result<Trace, ReaderFault>
     ensures ok { IfOk result
         (λ trace. IfSome (R.remaining source) (λ bytes. Spells bytes trace.recording)) }
     ensures err { IfErr result
@@ -221,12 +219,9 @@ pub fn read_from<R: Read + Drop>(alloc: Global, source: R) -> Result<Trace, Read
     ensures memory { IfErr result
         (λ fault. IfSome (R.remaining source) (λ bytes. IsNoMemoryLineOf bytes fault)) }
 {
-    let mut reader = TraceReader::new(alloc, source);
-    for _i in 0..MAX_PIECES {
-        match reader.next_piece()? {
-            Progress::More => {}
-            Progress::Ended => return reader.into_trace(),
-        }
+    match read_within(alloc, &mut source, DEFAULT_LIMITS) {
+        Ok(trace) => Ok(trace),
+        Err(ReadError::Source) => Err(ReaderFault::Read),
+        Err(ReadError::Text(rejected)) => Err(ReaderFault::Text(rejected.into_fault())),
     }
-    unreachable!()
 }

@@ -1,9 +1,9 @@
 -- A text spells exactly one script or has exactly one first error, and never both.
-use Rattle.std.proofs.Common.{◌≡◌, ◌⊎◌, inl, inr, ℕ, zero, suc, ◌+◌, ◌<◌, ◌≤◌, List, [], ◌∷◌, length, take, drop, map, Option, Some, None, Result, Ok, Err, refl, ap, sym, ◌∙◌, subst, arith}
+use Rattle.std.proofs.Common.{◌≡◌, ◌⊎◌, inl, inr, ℕ, zero, suc, ◌+◌, ◌≤◌, List, [], ◌∷◌, ◌++◌, length, take, map, Option, Some, None, Result, Ok, Err, refl, ap, sym, ◌∙◌, subst, arith}
 use Rattle.std.specs.Prelude.{slice_get}
-use Rattle.std.specs.List.{AllByRecursion, range_with_len}
+use Rattle.std.specs.List.{AllByRecursion}
 use Rattle.std.proofs.lemmas.Bool.{cases_lt, cases_order}
-use Rattle.std.proofs.lemmas.List.{length-map, drop_all}
+use Rattle.std.proofs.lemmas.List.{length-map}
 use Rattle.std.proofs.lemmas.Option.{same_Some}
 use Rattle.causal_protocol.specs.declared.request.Request.{Request}
 use Rattle.causal_script.specs.declared.script.Command.{Command}
@@ -13,13 +13,12 @@ use Rattle.causal_script.specs.declared.script.ScriptFaultKind.TheVariants.{Big,
 use Rattle.causal_script.specs.declared.start.Start.{Start}
 use Rattle.causal_script.specs.Lines.{script_lines, count_line_feeds}
 use Rattle.causal_script.specs.Spelling.{max_script, ScriptContent, IsStart, IsRequest, SpellsScript, start_line, command_line}
-use Rattle.causal_script.specs.Faults.{IsInPlace, IsFaultAfterLines, AreSound, IsFirstScriptFault}
-use Rattle.causal_script.specs.Inside.Reading.{parse_request, start_of}
-use Rattle.causal_script.specs.Inside.Place.{IsBigLine, line_or_fault}
-use Rattle.causal_script.proofs.CommandLines.{request_back, commanded, not_commanded, says_request}
-use Rattle.causal_script.proofs.Starts.{start_back, started, not_started, says_start}
-use Rattle.causal_script.proofs.Texts.{line_here, line_past, judged_ok, not_big, sound_none, sound_more, first_fault, feeds_below, length_lines, no_lines}
-use Rattle.causal_script.proofs.Scripts.{empty_fault}
+use Rattle.causal_script.specs.Faults.{IsInPlace, IsFaultAfterLines, IsFirstScriptFault}
+use Rattle.causal_script.specs.Inside.Reading.{split_at_byte, parse_request, start_of}
+use Rattle.causal_script.specs.Inside.Place.{IsBigLine, line_or_fault, IsAfter, AreCommands, AreOnLines}
+use Rattle.causal_script.proofs.Starts.{request_back, commanded, not_commanded, says_request, start_back, started, not_started, says_start}
+use Rattle.causal_script.proofs.Texts.{lines_cut, lines_uncut, line_here, judged_ok, sound_none, first_fault, after_none, after_more, commands_more, reaches_more, command_fault, empty_fault, spelled}
+use Rattle.causal_script.proofs.Numbers.{cut_shorter}
 
 -- ---- at most one script
 
@@ -75,13 +74,9 @@ not_both text p f a b = by_kind f.kind b.faulty where
 
 -- ---- at least one of both
 
--- the parsed lines from this one on
-record AreRead (text : List ℕ) (ls : List (List ℕ)) (count : ℕ) : Type 0 where
-  commands : List Command
-  said : ls ≡ map (λ c. command_line c.request) commands
-  requests : AllByRecursion (λ c. IsRequest c.request) commands
-  numbered : map (λ c. c.line) commands ≡ range_with_len (count + 1) (length commands)
-  sound : AreSound text (length (script_lines text))
+-- the text spells a script content or has a first error
+abbrev One : List ℕ → Type 0
+One text = ((p : ScriptContent) × SpellsScript text p) ⊎ ((f : ScriptFault) × IsFirstScriptFault text f)
 
 cases_big : (text : List ℕ) → (big : Option ℕ) × IsBigLine text big
 cases_big text = elim (cases_lt max_script (length text)) [
@@ -89,70 +84,49 @@ cases_big text = elim (cases_lt max_script (length text)) [
   | inr within ↦ (None, within)
 ]
 
-read_on : (text : List ℕ) (big : Option ℕ) (ls : List (List ℕ)) (k : ℕ) → IsBigLine text big → drop (suc k) (script_lines text) ≡ ls → suc k ≤ length (script_lines text) → AreSound text (suc k)
-    → AreRead text ls (suc k) ⊎ ((f : ScriptFault) × IsFirstScriptFault text f)
-read_on text big [] k bigs rest within sound = grind (arith, line_past (suc k) (script_lines text) rest)
-read_on text big (l ∷ ls) k bigs rest within sound = by_line (λ sounder. read_on text big ls (suc k) bigs here.1 inside sounder) (line_or_fault big (suc k + 1) (parse_request l)) refl where
-  here : (slice_get (script_lines text) (suc k) ≡ Some l) × (drop (suc (suc k)) (script_lines text) ≡ ls)
-  here = line_here (suc k) (script_lines text) l ls rest
+-- the next line, and the bytes after it
+abbrev Next : ℕ → List ℕ → Type 0
+Next x xs = (l : List ℕ) × (after : List ℕ) × (script_lines (x ∷ xs) ≡ l ∷ script_lines after) × (length after ≤ length xs)
 
-  joined : (r : Request) → IsRequest r → l ≡ command_line r → AreRead text ls (suc (suc k)) ⊎ ((f : ScriptFault) × IsFirstScriptFault text f) → AreRead text (l ∷ ls) (suc k) ⊎ ((f : ScriptFault) × IsFirstScriptFault text f)
-  joined r fits is (inr f) = inr f
-  joined r fits is (inl more) = inl (record {
-    commands = record { line = suc k + 1; request = r } ∷ more.commands;
-    said = ap (λ x. x ∷ ls) is ∙ ap (λ xs. command_line r ∷ xs) more.said;
-    requests = (fits, more.requests);
-    numbered = ap (λ ns. (suc k + 1) ∷ ns) (more.numbered ∙ ap (λ n. range_with_len n (length more.commands)) (omega arith));
-    sound = more.sound;
-  })
+next_of : (x : ℕ) (xs : List ℕ) → Next x xs
+next_of x xs = by_parts (split_at_byte 10 (x ∷ xs)) refl where
+  by_parts : (r : Option (List ℕ × List ℕ)) → split_at_byte 10 (x ∷ xs) ≡ r → Next x xs
+  by_parts None e = (x ∷ xs, [], lines_uncut x xs e, omega arith)
+  by_parts (Some parts) e = (parts.0, parts.1, lines_cut (x ∷ xs) parts e, (let less = cut_shorter 10 (x ∷ xs) parts e in omega arith))
 
-  inside : suc (suc k) ≤ length (script_lines text)
-  inside = grind (arith, drop_all (suc k) (script_lines text))
+-- the remaining bytes are lines of commands, or one of these lines has the first error
+read_on : (text rest left : List ℕ) (fuel : ℕ) (big : Option ℕ) (s : Start) (first : List ℕ) (cs : List Command) (line : ℕ) → length left ≤ fuel → IsBigLine text big
+    → (script_lines text ≡ first ∷ script_lines rest) × IsStart s × (first ≡ start_line s) → AreCommands rest cs left → AreOnLines text cs line left → One text
+read_on text rest [] fuel big s first cs line few bigs start are on = inl (record { start = s; commands = cs }, spelled text first rest s cs line start.0 start.1 start.2 are on)
+read_on text rest (x ∷ xs) zero big s first cs line few bigs start are on = absurd (omega arith)
+read_on text rest (x ∷ xs) (suc fuel) big s first cs line few bigs start are on =
+    by_line (λ after ds n less. read_on text rest after fuel big s first ds n less bigs start) (line_or_fault big (line + 1) (parse_request next.0)) refl where
+      next : Next x xs
+      next = next_of x xs
 
-  by_line : (AreSound text (suc (suc k)) → AreRead text ls (suc (suc k)) ⊎ ((f : ScriptFault) × IsFirstScriptFault text f)) → (r : Result Request ScriptFault) → line_or_fault big (suc k + 1) (parse_request l) ≡ r → AreRead text (l ∷ ls) (suc k) ⊎ ((f : ScriptFault) × IsFirstScriptFault text f)
-  by_line again (Err f) e = inr (f, first_fault text l (suc k) big (parse_request l) f bigs sound here.0 (λ none place. not_commanded l none place) e)
-  by_line again (Ok r) e =
-      let ok = judged_ok big (suc k + 1) (parse_request l) r e in
-      let says = says_request l r ok.1 in
-      let sounder = sound_more text (suc k) (suc (suc k)) (omega arith) sound (not_big text big (suc k) bigs ok.0) (rw here.0 (commanded l r ok.1)) in
-      joined r says.0 says.1 (again sounder)
+      by_line : ((after : List ℕ) (ds : List Command) (n : ℕ) → length after ≤ fuel → AreCommands rest ds after → AreOnLines text ds n after → One text)
+          → (r : Result Request ScriptFault) → line_or_fault big (line + 1) (parse_request next.0) ≡ r → One text
+      by_line again (Err f) e = inr (f, command_fault text (x ∷ xs) next.0 next.1 cs line (line + 1) big (parse_request next.0) f refl on next.2 bigs e (not_commanded next.0))
+      by_line again (Ok r) e =
+          let ok = judged_ok big (line + 1) (parse_request next.0) r e in
+          let says = says_request next.0 r ok.1 in
+          let c : Command = record { line = line + 1; request = r } in
+          again next.1 (cs ++ c ∷ []) (line + 1) (let less = next.3 in omega arith) (commands_more rest (x ∷ xs) next.0 next.1 cs c are next.2 says.1 says.0)
+          (reaches_more text (x ∷ xs) next.0 next.1 cs line (line + 1) big (parse_request next.0) r c refl refl on next.2 bigs e (commanded next.0 r))
 
--- the parsed lines are a script
-whole : (text l : List ℕ) (ls : List (List ℕ)) (s : Start) → script_lines text ≡ l ∷ ls → IsStart s → l ≡ start_line s → AreRead text ls 1 → (p : ScriptContent) × SpellsScript text p
-whole text l ls s split fits is read =
-    let said : script_lines text ≡ start_line s ∷ map (λ (c : Command). command_line c.request) read.commands = split ∙ ap (λ x. x ∷ ls) is ∙ ap (λ xs. start_line s ∷ xs) read.said in
-    let within : length text ≤ max_script = grind (arith, read.sound (count_line_feeds (take max_script text)) Big, feeds_below max_script text) in
-    let count : length (script_lines text) ≡ suc (length read.commands) = ap length said ∙ ap suc (length-map read.commands (λ (c : Command). command_line c.request)) in (
-      record { start = s; commands = read.commands },
-      record {
-        content = record { start = fits; requests = read.requests; numbered = read.numbered; room = omega (arith, length_lines text) };
-        said = said;
-        within = within;
-      },
-    )
+-- the first line is a start, or has the first error
+first_line : (text l rest : List ℕ) (b : (big : Option ℕ) × IsBigLine text big) → script_lines text ≡ l ∷ script_lines rest → (r : Result Start ScriptFault) → line_or_fault b.0 1 (start_of l) ≡ r → One text
+first_line text l rest b split (Err f) e =
+    inr (f, first_fault text l 0 b.0 (start_of l) f b.1 (sound_none text) (line_here 0 (script_lines text) l (script_lines rest) split).0 (not_started l) e)
+first_line text l rest b split (Ok s) e =
+    let says = says_start l s (judged_ok b.0 1 (start_of l) s e).1 in
+    let after : IsAfter text 1 rest = after_more text text l rest 0 1 b.0 (start_of l) s refl (after_none text) split b.1 e (started l s) in
+    read_on text rest rest (length rest) b.0 s l [] 1 (omega arith) b.1 (split, says.0, says.1) (record { said = refl; requests = tt }) (record { after = after; numbered = refl; count = refl })
 
 -- each text spells a script content or has a first error
-pub one_of_them : (text : List ℕ) → ((p : ScriptContent) × SpellsScript text p) ⊎ ((f : ScriptFault) × IsFirstScriptFault text f)
-one_of_them text = by_lines (script_lines text) refl where
-  big : (b : Option ℕ) × IsBigLine text b
-  big = cases_big text
-
-  ended : (l : List ℕ) (ls : List (List ℕ)) (s : Start) → script_lines text ≡ l ∷ ls → IsStart s → l ≡ start_line s → AreRead text ls 1 ⊎ ((f : ScriptFault) × IsFirstScriptFault text f) → ((p : ScriptContent) × SpellsScript text p) ⊎ ((f : ScriptFault) × IsFirstScriptFault text f)
-  ended l ls s split fits is (inl read) = inl (whole text l ls s split fits is read)
-  ended l ls s split fits is (inr f) = inr f
-
-  by_start : (l : List ℕ) (ls : List (List ℕ)) → script_lines text ≡ l ∷ ls → (r : Result Start ScriptFault) → line_or_fault big.0 1 (start_of l) ≡ r → ((p : ScriptContent) × SpellsScript text p) ⊎ ((f : ScriptFault) × IsFirstScriptFault text f)
-  by_start l ls split (Err f) e =
-      let here = line_here 0 (script_lines text) l ls split in
-      inr (f, first_fault text l 0 big.0 (start_of l) f big.1 (sound_none text) here.0 (λ none place. not_started l none place) e)
-  by_start l ls split (Ok s) e =
-      let here = line_here 0 (script_lines text) l ls split in
-      let ok = judged_ok big.0 1 (start_of l) s e in
-      let says = says_start l s ok.1 in
-      let sound = sound_more text 0 1 refl (sound_none text) (not_big text big.0 0 big.1 ok.0) (rw here.0 (started l s ok.1)) in
-      let some : 1 ≤ length (script_lines text) = let count : length (script_lines text) ≡ suc (length ls) = ap length split in omega arith in
-      ended l ls s split says.0 says.1 (read_on text big.0 ls 0 big.1 here.1 some sound)
-
-  by_lines : (ls : List (List ℕ)) → script_lines text ≡ ls → ((p : ScriptContent) × SpellsScript text p) ⊎ ((f : ScriptFault) × IsFirstScriptFault text f)
-  by_lines [] e = inr (record { line = 1; kind = Script }, empty_fault text (no_lines text e))
-  by_lines (l ∷ ls) e = by_start l ls e (line_or_fault big.0 1 (start_of l)) refl
+pub one_of_them : (text : List ℕ) → One text
+one_of_them [] = inr (record { line = 1; kind = Script }, empty_fault [] refl)
+one_of_them (x ∷ xs) =
+    let next = next_of x xs in
+    let big = cases_big (x ∷ xs) in
+    first_line (x ∷ xs) next.0 next.1 big next.2 (line_or_fault big.0 1 (start_of next.0)) refl

@@ -1,17 +1,15 @@
 -- Reading is unique: the first error of a text is the one that reading returns.
-use Rattle.std.proofs.Common.{arith, ◌≡◌, ℕ, ◌+◌, List, [], ◌∷◌, length, Err, inl, inr, ap, ap₂, sym, ◌∙◌}
+use Rattle.std.proofs.Common.{arith, ◌≡◌, ℕ, ◌+◌, List, [], ◌∷◌, length, Err, inl, inr, ap, sym, ◌∙◌}
 use Rattle.causal_trace.specs.Rows.{Recording}
 use Rattle.causal_line.specs.declared.kind.TextKind.TheVariants as kind
 use Rattle.causal_line.specs.declared.kind.TextFault.{TextFault}
 use Rattle.causal_line.specs.declared.stage.Stage.{Stage}
-use Rattle.causal_line.specs.declared.stage.Stage.TheVariants.{Opening, Within, Ended}
 use Rattle.causal_line.specs.Lines.{lines}
 use Rattle.causal_lines.specs.ReadPositions.{ReadPosition, start_position, position_after, finish_at, IsOpen}
 use Rattle.causal_text.specs.Inside.LineByLine.{read_text}
 use Rattle.causal_line.specs.Stages.{advance_stage}
 use Rattle.causal_text.specs.Spelling.{SpellsWithin, IsFaultOfLine, IsCut, IsFirstFaultWithin}
-use Rattle.causal_text.proofs.Spellings.{IsPlaceAfter-lines, IsPlaceAfter-start}
-use Rattle.causal_text.proofs.Complete.{after_lines-append, Leads-reached, reading-spelled}
+use Rattle.causal_text.proofs.Spellings.{IsPlaceAfter-lines, IsPlaceAfter-start, after_lines-append, Leads-reached, reading-spelled}
 
 -- a line with an error is refused with it
 faulty_next : (most : ℕ) (q : ReadPosition) (line : List ℕ) (f : TextFault) → advance_stage most q.stage (q.size + length line) line ≡ Err f.kind → f.line ≡ q.count + 1 → position_after most q line ≡ Err f

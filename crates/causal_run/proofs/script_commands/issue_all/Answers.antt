@@ -1,28 +1,17 @@
-use Rattle.std.proofs.Common.{◌≡◌, ◌≤◌, ◌<◌, ◌+◌, ◌∙◌, sym, refl, ap, subst, ℕ, List, [], length, take, drop, length-drop, get_or, arith}
+use Rattle.std.proofs.Common.{◌≡◌, ◌∙◌, sym, refl, ap, subst, List, [], length, take, length-drop, get_or, arith}
 use Rattle.std.proofs.Math.Seq.{take-length}
 use Rattle.std.specs.Vec.Iter.{into_iter_items}
 use Rattle.causal_protocol.specs.declared.request.Request.TheVariants as Requests
 use Rattle.causal_shared.specs.declared.item.Item.{Item}
 use Rattle.causal_script.specs.declared.script.Command.{Command}
-use Rattle.causal_run.specs.Runs.{spares_for, spares_in}
+use Rattle.causal_run.specs.Runs.{spares_for}
 use Rattle.causal_run.specs.Inside.IssuedRequests.{ArePerformed}
-use Rattle.causal_run.proofs.Asks.{done_more, spares_left, stopped}
+use Rattle.causal_run.proofs.Histories.{done_more, spares_left, stopped}
 use Rattle.causal_run.proofs.script_commands.issue_all.Goals as goal
 
 -- the result of an iterator that is read past its end
 abbrev past_end : Command
 past_end = record { line = 0; request = Requests.Deliver (record { 0 = 0 }) (record { 0 = 0 }) 0 }
-
-left : {X : Type 0} (commands : List Command) (i : ℕ) (old new : List X) → i < length commands → length old ≡ spares_in (drop i commands) → new ≡ drop (spares_for (get_or commands i past_end).request) old → length new ≡ spares_in (drop (i + 1) commands)
-left commands i old new lt count is =
-    let split = spares_left commands i past_end (get_or commands i past_end) lt refl in
-    let long : length new ≡ length (drop (spares_for (get_or commands i past_end).request) old) = ap length is in
-    omega (arith, split, long, count, length-drop (spares_for (get_or commands i past_end).request) old)
-
-enough : {X : Type 0} (commands : List Command) (i : ℕ) (old : List X) → i < length commands → length old ≡ spares_in (drop i commands) → spares_for (get_or commands i past_end).request ≤ length old
-enough commands i old lt count =
-    let split = spares_left commands i past_end (get_or commands i past_end) lt refl in
-    omega (arith, split, count)
 
 pub loop-command-init : goal.loop-command-init
 loop-command-init g c = record {
@@ -31,14 +20,19 @@ loop-command-init g c = record {
 }
 
 pub issue-requires : goal.issue-requires
-issue-requires g c = enough c.args.commands.now c.loop-command.command-index (into_iter_items c.loop-command.spares) c.loop-command-test.true c.loop-command.invariant.spares
+issue-requires g c =
+    let left = spares_left c.args.commands.now c.loop-command.command-index past_end _ c.loop-command-test.true refl in
+    omega (arith, left, c.loop-command.invariant.spares)
 
 pub loop-command-preserved : goal.loop-command-preserved
 loop-command-preserved g c =
     let i = c.loop-command.command-index in
-    let commands = c.args.commands.now in record {
-      done = done_more c.in_default.field-0 commands i past_end (get_or commands i past_end) c.loop-command.seat.view c.issue.new.seat.view c.loop-command-test.true refl c.in_default.ensures.item c.loop-command.invariant.done;
-      spares = left commands i (into_iter_items c.loop-command.spares) (into_iter_items c.issue.new.spares) c.loop-command-test.true c.loop-command.invariant.spares c.issue.ensures.spares;
+    let commands = c.args.commands.now in
+    let command = get_or commands i past_end in
+    let before = into_iter_items c.loop-command.spares in record {
+      done = done_more c.in_default.field-0 commands i past_end command c.loop-command.seat.view c.issue.new.seat.view c.loop-command-test.true refl c.in_default.ensures.item c.loop-command.invariant.done;
+      spares = ap length c.issue.ensures.spares ∙ length-drop (spares_for command.request) before
+          ∙ omega (arith, spares_left commands i past_end command c.loop-command-test.true refl, c.loop-command.invariant.spares);
     }
 
 pub returns-in-Err-clause-err : goal.returns-in-Err-clause-err

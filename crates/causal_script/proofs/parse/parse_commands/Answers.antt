@@ -2,7 +2,7 @@ use Rattle.std.proofs.Common.{List, refl, sym, ◌∙◌, subst}
 use Rattle.std.proofs.lemmas.Result.{err_from_is_err_and}
 use Rattle.causal_script.specs.declared.script.Command.{Command}
 use Rattle.causal_script.specs.Inside.Place.{AreCommands, AreOnLines}
-use Rattle.causal_script.proofs.CommandLines.{says_request, commanded, not_commanded}
+use Rattle.causal_script.proofs.Starts.{says_request, commanded, not_commanded}
 use Rattle.causal_script.proofs.Texts.{judged_ok, judged_line, commands_more, reaches_more, command_fault, read_up_to, pushed, next_line}
 use Rattle.causal_script.proofs.parse.parse_commands.Goals as goal
 

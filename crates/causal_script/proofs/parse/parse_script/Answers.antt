@@ -1,8 +1,7 @@
 use Rattle.std.proofs.Common.{refl, sym, ◌∙◌}
 use Rattle.std.proofs.lemmas.Result.{err_from_is_err_and}
 use Rattle.causal_script.proofs.Starts.{says_start, started, not_started}
-use Rattle.causal_script.proofs.Texts.{line_here, judged_ok, sound_none, first_fault, after_none, after_more}
-use Rattle.causal_script.proofs.Scripts.{spelled}
+use Rattle.causal_script.proofs.Texts.{line_here, judged_ok, sound_none, first_fault, after_none, after_more, spelled}
 use Rattle.causal_script.specs.Lines.{script_lines}
 use Rattle.causal_script.specs.Inside.Place.{IsAfter}
 use Rattle.causal_script.proofs.parse.parse_script.Goals as goal

@@ -1,6 +1,6 @@
 use Rattle.std.proofs.Common.{sym, arith}
 use Rattle.std.proofs.lemmas.Bool.Decides.{nat_tests}
-use Rattle.causal_script.proofs.Cuts.{cut_shorter}
+use Rattle.causal_script.proofs.Numbers.{cut_shorter}
 use Rattle.causal_script.proofs.Texts.{lines_cut, lines_last}
 use Rattle.causal_script.proofs.parse.split_line.Goals as goal
 

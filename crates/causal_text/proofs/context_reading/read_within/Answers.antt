@@ -1,33 +1,30 @@
-use Rattle.std.proofs.Common.{[], length-append, take, arith}
-use Rattle.std.proofs.KnownBytes.{Consumes-nil, Consumes-trans}
-use Rattle.causal_text.proofs.KeptLemmas.{rejects}
-use Rattle.causal_text.proofs.StreamLemmas.{failure_stops, piece_ends, piece_stops}
+use Rattle.std.proofs.Common.{◌++◌, ℕ, List, [], Option, Some, None, append-nil, length-append, take, arith}
+use Rattle.std.specs.Prelude.{IfSome}
+use Rattle.std.specs.Io.KnownBytes.{Consumes}
+use Rattle.std.proofs.KnownBytes.{Consumes-kept, Consumes-trans}
+use Rattle.causal_text.specs.FaultContexts.{IsTrueRefusalWithin}
 use Rattle.causal_text.proofs.context_reading.read_within.Goals as goal
 
-pub loop-i-preserved : goal.loop-i-preserved
-loop-i-preserved g c = grind (arith, length-append c.loop-i.invariant.0 (take c.in-Ok.n c.read.new.buf), Consumes-trans)
+-- a property of the bytes read and all that may follow is one of the source's bytes
+whatever_follows : (known left : Option (List ℕ)) (read : List ℕ) (P : List ℕ → Type 0) → Consumes known left read → ((more : List ℕ) → P (read ++ more)) → IfSome known P
+whatever_follows None left read P p h = tt
+whatever_follows (Some bytes) None read P p h = absurd p
+whatever_follows (Some bytes) (Some rest) read P p h = rw p (h rest)
 
-pub returns-in-Err-clause-err : goal.returns-in-Err-clause-err
-returns-in-Err-clause-err g c =
+pub loop-i-preserved : goal.loop-i-preserved
+loop-i-preserved g c =
     let i = c.loop-i.invariant in
     let piece = take c.in-Ok.n c.read.new.buf in
-    rejects c.args.limits.entries (g.R.Read.remaining c.args.source.now) (g.R.Read.remaining c.loop-i.source) (g.R.Read.remaining c.read.new.self) i.0 piece c.in-Err.rejected i.1 c.in-Ok.ensures.bytes.0
-    (piece_ends c.in-Ok.n c.read.new.buf _ c.in-Ok.ensures.bound.0 c.in-Ok.ensures.bytes.1 (omega arith))
-    (λ other. c.in-Err.ensures.err other i.0 i.2) (λ wants. c.in-Err.ensures.memory wants i.0 i.2) (c.in-Err.ensures.before i.0 i.2)
+    (i.0 ++ piece, Consumes-trans _ _ _ _ _ i.1 c.in-Ok.ensures.bytes.0, c.in-Ok-feed.ensures.ok c.args.limits.entries i.0 i.2, grind (arith, length-append i.0 piece))
 
-pub returns-in-Err-clause-stops : goal.returns-in-Err-clause-stops
-returns-in-Err-clause-stops g c =
+pub returns-in-Err-feed-clause-err : goal.returns-in-Err-feed-clause-err
+returns-in-Err-feed-clause-err g c =
     let i = c.loop-i.invariant in
-    piece_stops c.args.limits.entries (g.R.Read.remaining c.args.source.now) (g.R.Read.remaining c.loop-i.source) (g.R.Read.remaining c.read.new.self) i.0 (take c.in-Ok.n c.read.new.buf) c.loop-i.pieces i.1 c.in-Ok.ensures.bytes.0
-    (omega (arith, c.in-Ok.ensures.bound.0, c.in-Ok.ensures.bound.1)) i.2
-
-pub returns-in-Ended-clause-stops : goal.returns-in-Ended-clause-stops
-returns-in-Ended-clause-stops g c = grind (arith, piece_stops)
-
-pub loop-i-init : goal.loop-i-init
-loop-i-init g c = ([], Consumes-nil _, (c.new-pieces.ensures.bytes c.args.limits.entries, omega arith, c.new-pieces.ensures.nothing), omega arith)
+    let piece = take c.in-Ok.n c.read.new.buf in
+    whatever_follows (g.R.Read.remaining c.args.source.now) (g.R.Read.remaining c.read.new.self) (i.0 ++ piece) (λ text. IsTrueRefusalWithin c.args.limits.entries text c.in-Err-feed.rejected)
+    (Consumes-trans _ _ _ _ _ i.1 c.in-Ok.ensures.bytes.0) (c.in-Err-feed.ensures.err c.args.limits.entries i.0 i.2)
 
 pub returns-in_default-clause-stops : goal.returns-in_default-clause-stops
 returns-in_default-clause-stops g c =
     let i = c.loop-i.invariant in
-    failure_stops c.args.limits.entries (g.R.Read.remaining c.args.source.now) (g.R.Read.remaining c.loop-i.source) (g.R.Read.remaining c.read.new.self) i.0 c.loop-i.pieces i.1 c.in_default.ensures.bytes i.2
+    record { before = i.0; piece = []; consumed = rw append-nil (Consumes-kept _ _ _ _ i.1 c.in_default.ensures.bytes); undecided = (c.loop-i.reader.pieces, i.2.1); one_piece = omega arith }

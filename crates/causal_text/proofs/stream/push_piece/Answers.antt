@@ -8,10 +8,9 @@ use Rattle.causal_line.specs.declared.kind.TextFault.{TextFault}
 use Rattle.causal_text.specs.Inside.PartialLines.{IsFaultOfAll}
 use Rattle.causal_text.specs.Streams.{IsFaultAfter}
 use Rattle.causal_text.specs.Inside.LineByLine.{read_text}
-use Rattle.causal_text.proofs.Feeds.{reading-ending, IsReadAt-stands, IsReadAt-more}
+use Rattle.causal_text.proofs.Feeds.{reading-ending, IsReadAt-stands, IsReadAt-more, read_more}
 use Rattle.causal_line.proofs.Lemmas.DefinedErrors.{error_is_defined}
 use Rattle.causal_text.proofs.Spellings.{Spells-reading, IsFirstFault-reading}
-use Rattle.causal_text.proofs.StreamLemmas.{read_more}
 use Rattle.causal_text.proofs.stream.push_piece.Goals as goal
 
 is_nil : (xs : List ℕ) (b : Bool) → b ≡ (length xs == 0) → b ≡ true → xs ≡ []

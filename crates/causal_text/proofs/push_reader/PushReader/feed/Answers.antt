@@ -1,5 +1,5 @@
 use Rattle.std.proofs.Common.{arith}
-use Rattle.causal_text.proofs.FedLemmas.{fed_more, fed_refusal}
+use Rattle.causal_text.proofs.Stops.{fed_more, fed_refusal}
 use Rattle.causal_text.proofs.push_reader.PushReader.feed.Goals as goal
 
 pub returns-in-Ok-clause-ok : goal.returns-in-Ok-clause-ok

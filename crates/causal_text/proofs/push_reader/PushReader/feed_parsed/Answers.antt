@@ -1,9 +1,9 @@
-use Rattle.std.proofs.Common.{rules, arith, ap, sym, subst, ◌≡◌, ◌∙◌, ◌++◌, ◌∷◌, [], length, append-nil, refl}
-use Rattle.std.proofs.lemmas.List.{nil_from_length}
+use Rattle.std.proofs.Common.{rules, arith, ap, sym, subst, ◌∙◌, ◌++◌, ◌∷◌, [], length, append-nil, append_assoc, refl}
+use Rattle.std.proofs.lemmas.Result.{IfOk-weaker, IfErr-weaker}
 use Rattle.std.specs.Vec.Iter.{into_iter_items}
 use Rattle.causal_text.specs.Inside.Chunks.{AreParsed, bytes_of}
 use Rattle.causal_text.specs.PushReaders.{HasReceived}
-use Rattle.causal_text.proofs.ChunkLemmas.{next_line, one_received, left_received, left_refused, refused_in, rest_received, rest_refused}
+use Rattle.causal_text.proofs.ChunkLemmas.{next_line, one_received, refused_in, all_read}
 use Rattle.causal_text.proofs.push_reader.PushReader.feed_parsed.Goals as goal
 
 pub loop-line-init : goal.loop-line-init
@@ -23,7 +23,7 @@ loop-line-preserved c =
       all.1,
       next_line _ i.0 c.in-Some.line _ _ i.3 step.0,
       one_received c.args.self c.loop-line.reader c.in-Ok.next i.0 line i.4
-          (left_received c.loop-line.reader c.try_parsed_line.new.self c.in-Ok.next line c.in-Some-try_parsed_line.line.bytes.now left.unchanged left.left.1 c.in-Ok.ensures.ok),
+          (rw (← left.unchanged, ← left.left.1) c.in-Ok.ensures.ok),
     )
 
 pub loop-line-preserved-in_default : goal.loop-line-preserved-in_default
@@ -47,21 +47,17 @@ returns-in-Err-clause-err c =
     let began = c.into_iter-line-iterator.ensures.into_iter_gives in
     let whole = sym (ap bytes_of began.0) ∙ next_line _ i.0 c.in-Some.line _ _ i.3 c.in-Some.ensures.steps.0 in
     rw (← c.chunk.view_is) (λ most b s. refused_in most b (bytes_of c.chunk.inside.lines.items) i.0 line (bytes_of (into_iter_items c.next.new.self)) c.chunk.inside.rest.now c.in-Err.rejected whole
-    (left_refused most c.loop-line.reader c.try_parsed_line.new.self (b ++ i.0) line c.in-Some-try_parsed_line.line.bytes.now c.in-Err.rejected left.unchanged left.left.1 (i.4 most b s)
-    (λ t. (c.in-Err.ensures.err most (b ++ i.0) t).rejection)))
+    (rw (← left.left.1) (c.in-Err.ensures.err most (b ++ i.0) (rw left.unchanged (i.4 most b s))).rejection))
 
 pub returns-clause-ok : goal.returns-clause-ok
 returns-clause-ok c =
     let i = c.loop-line.invariant in
-    let began = c.into_iter-line-iterator.ensures.into_iter_gives in
-    let none : into_iter_items c.loop-line.line-iterator ≡ [] = nil_from_length _ (sym i.1 ∙ c.in-None.ensures.steps.0) in
-    let whole = sym (ap bytes_of began.0) ∙ i.3 ∙ ap (λ ls. i.0 ++ bytes_of ls) none in
-    rw (← c.chunk.view_is) (rest_received c.args.self c.loop-line.reader (bytes_of c.chunk.inside.lines.items) i.0 c.chunk.inside.rest.now c.feed.result whole i.4 c.feed.ensures.ok)
+    let whole = all_read i.0 (into_iter_items c.loop-line.line-iterator) c.chunk.inside.lines.items _ c.into_iter-line-iterator.ensures.into_iter_gives.0 i.3 (sym i.1 ∙ c.in-None.ensures.steps.0) in
+    rw (← c.chunk.view_is, whole) (IfOk-weaker c.feed.result _ _ (λ next then. one_received c.args.self c.loop-line.reader next i.0 c.chunk.inside.rest.now i.4 then) c.feed.ensures.ok)
 
 pub returns-clause-err : goal.returns-clause-err
 returns-clause-err c =
     let i = c.loop-line.invariant in
-    let began = c.into_iter-line-iterator.ensures.into_iter_gives in
-    let none : into_iter_items c.loop-line.line-iterator ≡ [] = nil_from_length _ (sym i.1 ∙ c.in-None.ensures.steps.0) in
-    let whole = sym (ap bytes_of began.0) ∙ i.3 ∙ ap (λ ls. i.0 ++ bytes_of ls) none in
-    rw (← c.chunk.view_is) (rest_refused c.args.self c.loop-line.reader (bytes_of c.chunk.inside.lines.items) i.0 c.chunk.inside.rest.now c.feed.result whole i.4 c.feed.ensures.err)
+    let rest = c.chunk.inside.rest.now in
+    let whole = all_read i.0 (into_iter_items c.loop-line.line-iterator) c.chunk.inside.lines.items _ c.into_iter-line-iterator.ensures.into_iter_gives.0 i.3 (sym i.1 ∙ c.in-None.ensures.steps.0) in
+    rw (← c.chunk.view_is, whole) (IfErr-weaker c.feed.result _ _ (λ rejected then most b s. rw (← append_assoc b i.0 rest) (then most (b ++ i.0) (i.4 most b s))) c.feed.ensures.err)

@@ -1,6 +1,5 @@
 use Rattle.std.proofs.Common.{arith}
-use Rattle.causal_text.proofs.FedLemmas.{fed_spells}
-use Rattle.causal_text.proofs.Stops.{end_stops}
+use Rattle.causal_text.proofs.Stops.{fed_spells, end_stops}
 use Rattle.causal_text.proofs.push_reader.PushReader.finish.Goals as goal
 
 pub returns-in-Ok-clause-ok : goal.returns-in-Ok-clause-ok

@@ -1,5 +1,5 @@
 use Rattle.std.proofs.Common.{ap, ◌∙◌}
-use Rattle.causal_text.proofs.FedLemmas.{no_memory_refusal}
+use Rattle.causal_text.proofs.Stops.{no_memory_refusal}
 use Rattle.causal_text.proofs.push_reader.PushReader.no_memory.Goals as goal
 
 pub returns-clause-refusal : goal.returns-clause-refusal

@@ -6,7 +6,7 @@ use Rattle.causal_line.specs.declared.kind.TextFault.{TextFault}
 use Rattle.causal_text.specs.Pieces.{PieceState}
 use Rattle.causal_lines.specs.ReadPositions.{position_after}
 use Rattle.causal_text.specs.Inside.PartialLines.{last_place, finish_reading}
-use Rattle.causal_text.proofs.BeforeLemmas.{kept_at_end}
+use Rattle.causal_text.proofs.Stops.{kept_at_end}
 use Rattle.causal_line.proofs.Lemmas.DefinedErrors.{error_is_defined, defined_or_no_memory}
 use Rattle.causal_text.proofs.reader.PieceReader.end.Goals as goal
 

@@ -1,9 +1,7 @@
-use Rattle.std.proofs.Common.{arith, ◌≡◌, ◌++◌, ◌∙◌, ap, List, ℕ, true, Result, Ok, Err, IfOk, append_assoc}
-use Rattle.causal_line.specs.declared.text_refusal.TextRefusal.{TextRefusal}
-use Rattle.causal_line.specs.Lines.{no_feed}
-use Rattle.causal_text.specs.Pieces.{PieceState, RepresentsBytes}
-use Rattle.std.proofs.lemmas.Result.{err_from_is_err_and, IfErr-weaker}
-use Rattle.causal_text.proofs.BeforeLemmas.{kept_of_piece}
+use Rattle.std.proofs.Common.{subst, sym, arith, ◌++◌, ◌∙◌, ap, append_assoc}
+use Rattle.causal_text.specs.Pieces.{PieceState}
+use Rattle.std.proofs.lemmas.Result.{err_from_is_err_and, IfErr-weaker, IfOk-weaker}
+use Rattle.causal_text.proofs.Stops.{kept_of_piece}
 use Rattle.causal_text.proofs.Feeds.{Comes, Comes-line, Comes-hold, fault_of_piece, fault_of_hold, line_of_part}
 use Rattle.causal_line.proofs.Lemmas.DefinedErrors.{error_is_defined}
 use Rattle.causal_text.proofs.reader.PieceReader.feed.Goals as goal
@@ -16,12 +14,10 @@ loop-line-preserved c =
       Comes-line c.args.limits.entries c.args.self c.loop-line.reader c.in_ok-reader.reader c.loop-line.invariant.0 c.in-Some.line.now c.loop-line.invariant.2 c.in-Some.ensures.some.0 c.in_ok-reader.ensures.value,
     )
 
-held : (most : ℕ) (h0 h : PieceState) (piece done left : List ℕ) (r : Result PieceState TextRefusal) → Comes most h0 done h → piece ≡ done ++ left → no_feed left ≡ true → IfOk r (λ k. k ≡ record { place = h.place; rest = h.rest ++ left }) → IfOk r (λ k. (b : List ℕ) → RepresentsBytes most h0 b → RepresentsBytes most k (b ++ piece))
-held most h0 h piece done left (Ok k) c is none e = rw (e, is) (Comes-hold most h0 h done left c none)
-held most h0 h piece done left (Err f) c is none e = tt
-
 pub returns-clause-ok : goal.returns-clause-ok
-returns-clause-ok c = let i = c.loop-line.invariant in held c.args.limits.entries c.args.self c.loop-line.reader _ i.0 c.loop-line.left.now c.buffer_part.result i.2 i.1 c.in_default.ensures.none c.buffer_part.ensures.ok
+returns-clause-ok c =
+    let i = c.loop-line.invariant in
+    IfOk-weaker c.buffer_part.result _ _ (λ k is. subst (λ (h : PieceState). Comes c.args.limits.entries c.args.self c.args.piece.now h) (sym is) (rw i.1 (Comes-hold c.args.limits.entries c.args.self c.loop-line.reader i.0 c.loop-line.left.now i.2 c.in_default.ensures.none))) c.buffer_part.ensures.ok
 
 pub returns-clause-err : goal.returns-clause-err
 returns-clause-err c =

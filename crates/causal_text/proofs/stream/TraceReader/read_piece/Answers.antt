@@ -1,8 +1,12 @@
-use Rattle.std.proofs.Common.{◌++◌, List, ℕ, rules, take, arith}
+use Rattle.std.proofs.Common.{◌≡◌, ◌<◌, ◌≤◌, ◌++◌, List, ℕ, Option, length, rules, take, arith}
+use Rattle.std.specs.Io.KnownBytes.{IsAtEnd}
 use Rattle.causal_text.specs.declared.stream.State.TheVariants as state
-use Rattle.causal_text.specs.Streams.{HasRead}
-use Rattle.causal_text.proofs.StreamLemmas.{piece_ends}
+use Rattle.causal_text.specs.Streams.{HasRead, PieceEndsAt}
 use Rattle.causal_text.proofs.stream.TraceReader.read_piece.Goals as goal
+
+-- a piece is empty only at the end
+piece_ends : (n : ℕ) (buffer : List ℕ) (left : Option (List ℕ)) → n ≤ length buffer → (n ≡ 0 → 0 < length buffer → IsAtEnd left) → 0 < length buffer → PieceEndsAt (take n buffer) left
+piece_ends n buffer left few ends some = grind arith
 
 pub returns-after-n-eq0-clause-ok : goal.returns-after-n-eq0-clause-ok
 returns-after-n-eq0-clause-ok g c =
