@@ -1,6 +1,8 @@
 -- Splitting a text at the first occurrence of a byte, and the decimal spelling of a number.
-use Rattle.std.proofs.Common.{ne_eqb, zero, suc, take, drop, eqb, ◌≡◌, ℕ, ◌<◌, List, [], ◌∷◌, ◌++◌, length, Bool, true, false, cond, Option, Some, None, refl, ap, sym, ◌∙◌, arith, length-append, ◌≢◌, ◌⊎◌, ◌≤◌, ◌^◌, get_or, leb, Result, Ok, Err, subst, decimal}
-use Rattle.std.proofs.lemmas.Bool.{eqb-true, eq-eqb, and_parts, leb-true}
+use Rattle.std.proofs.Common.{◌≡◌, ℕ, suc, ◌+◌, ◌-◌, ◌<◌, List, [], ◌∷◌, ◌++◌, length, take, drop, Bool, true, false, cond, eqb, ltb, Option, Some, None, refl, ap, sym, ◌∙◌, arith, option_map, length-append, ◌≢◌, ◌⊎◌, ◌≤◌, ◌^◌, get_or, leb, Result, Ok, Err, subst, decimal}
+use Rattle.std.specs.List.{position_or_len}
+use Rattle.std.proofs.lemmas.List.{drop-drop, take_rest}
+use Rattle.std.proofs.lemmas.Bool.{eqb-true, eq-eqb, lt-ltb, and_parts, leb-true}
 use Rattle.std.proofs.lemmas.Option.{none-some, gets, cond_some}
 use Rattle.causal_script.specs.Inside.Reading.{split_at_byte, is_plain_number, parse_number, parse_process, parse_count}
 use Rattle.std.specs.Prelude.{slice_get, ◌&&◌, nat_le, IsUtf8, if◌then◌else◌, OkIff}
@@ -27,22 +29,35 @@ pub cut_whole : (byte : ℕ) (xs : List ℕ) (parts : List ℕ × List ℕ) → 
 cut_whole byte [] parts e = absurd (none-some parts e)
 cut_whole byte (x ∷ xs) parts e = grind (arith, cut_whole byte xs, eqb-true x byte)
 
--- one more byte that is not this byte
-pub lacks_more : (byte : ℕ) (xs : List ℕ) (i : ℕ) → i < length xs → get_or xs i 0 ≢ byte → Lacks byte (take i xs) → Lacks byte (take (suc i) xs)
-lacks_more byte [] i h ne l = tt
-lacks_more byte (x ∷ xs) zero h ne l = (ne_eqb x byte ne, tt)
-lacks_more byte (x ∷ xs) (suc i) h ne l = (l.0, lacks_more byte xs i (omega arith) ne l.1)
+-- the bytes before this index, and the bytes after it
+abbrev pub parts_at : List ℕ → Option ℕ → Option (List ℕ × List ℕ)
+parts_at xs None = None
+parts_at xs (Some at) = Some (take at xs, drop (suc at) xs)
 
--- a text is split at the first index of the byte
-pub cut_at : (byte : ℕ) (xs : List ℕ) (i : ℕ) → i < length xs → get_or xs i 0 ≡ byte → Lacks byte (take i xs) → split_at_byte byte xs ≡ Some (take i xs, drop (suc i) xs)
-cut_at byte [] i h e l = absurd (omega arith)
-cut_at byte (x ∷ xs) zero h e l = rw (eq-eqb x byte e) refl
-cut_at byte (x ∷ xs) (suc i) h e l = rw (l.0, cut_at byte xs i (omega arith) e l.1) refl
+-- the first index of the byte, as `position` returns it
+abbrev pub place_of : ℕ → List ℕ → Option ℕ
+place_of byte xs = cond (ltb (position_or_len (λ b. eqb b byte) xs) (length xs)) (Some (position_or_len (λ b. eqb b byte) xs)) None
 
--- a text without the byte is not split
-pub cut_none : (byte : ℕ) (xs : List ℕ) → Lacks byte xs → split_at_byte byte xs ≡ None
-cut_none byte [] h = refl
-cut_none byte (x ∷ xs) h = rw (h.0, cut_none byte xs h.1) refl
+pub cut_position : (byte : ℕ) (xs : List ℕ) → split_at_byte byte xs ≡ parts_at xs (place_of byte xs)
+cut_position byte [] = refl
+cut_position byte (x ∷ xs) = by_test (eqb x byte) refl (cut_position byte xs) where
+  shifted : (n m k : ℕ) → m ≡ suc n → k ≡ suc (length xs)
+      → option_map (λ (q : List ℕ × List ℕ). (x ∷ q.0, q.1)) (parts_at xs (cond (ltb n (length xs)) (Some n) None)) ≡ parts_at (x ∷ xs) (cond (ltb m k) (Some m) None)
+  shifted n m k e f = grind arith
+
+  by_test : (b : Bool) → eqb x byte ≡ b → split_at_byte byte xs ≡ parts_at xs (place_of byte xs) → split_at_byte byte (x ∷ xs) ≡ parts_at (x ∷ xs) (place_of byte (x ∷ xs))
+  by_test true t ih = let some : ltb 0 (length (x ∷ xs)) ≡ true = lt-ltb 0 (length (x ∷ xs)) (omega arith) in rw (t, some) refl
+  by_test false t ih =
+      rw (t, ih) (shifted (position_or_len (λ b. eqb b byte) xs) (1 + position_or_len (λ b. eqb b byte) xs) (length (x ∷ xs)) (omega arith) (omega arith))
+
+-- a text is split at the first index of the byte, if it has one
+pub cut_found : (byte : ℕ) (xs : List ℕ) (r s : Option ℕ) → r ≡ place_of byte xs → r ≡ s → split_at_byte byte xs ≡ parts_at xs s
+cut_found byte xs r s found is = cut_position byte xs ∙ ap (parts_at xs) (sym found ∙ is)
+
+-- the rest, as a slice
+pub cut_slices : (byte : ℕ) (xs front back : List ℕ) (at : ℕ) → front ≡ take at xs → back ≡ drop at xs → split_at_byte byte xs ≡ Some (take at xs, drop (suc at) xs)
+    → ◌≡◌ {A = Option (List ℕ × List ℕ)} (Some (front, take (length back - 1) (drop 1 back))) (split_at_byte byte xs)
+cut_slices byte xs front back at f b e = grind (arith, take_rest back 1, drop-drop 1 at xs)
 
 -- the part after the byte is shorter than the text
 pub cut_shorter : (byte : ℕ) (xs : List ℕ) (parts : List ℕ × List ℕ) → split_at_byte byte xs ≡ Some parts → length parts.1 < length xs

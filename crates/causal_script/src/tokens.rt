@@ -10,12 +10,9 @@ pub(crate) fn split_at_byte(text: &[u8], byte: u8) -> Option<(&[u8], &[u8])>
     ensures { option_map (λ parts. (parts.0.now, parts.1.now)) result
         ≡ split_at_byte byte text.now }
 {
-    for (at, x) in text.iter().enumerate() {
-        if *x == byte {
-            return Some((&text[..at], &text[at + 1..]));
-        }
-    }
-    None
+    let at = text.iter().position(|b| *b == byte)?;
+    let (front, back) = text.split_at(at);
+    Some((front, &back[1..]))
 }
 
 /// Parses a plain decimal number up to a limit.

@@ -1,16 +1,17 @@
-use Rattle.std.proofs.Common.{◌≡◌, ◌+◌, ◌∙◌, length, take, sym, ap, subst, add-one, arith}
-use Rattle.std.proofs.Math.Seq.{take-length}
-use Rattle.std.proofs.lemmas.List.{take_rest}
-use Rattle.causal_script.proofs.Numbers.{Lacks, lacks_more, cut_at, cut_none}
+use Rattle.std.proofs.Common.{eqb, Some, None, refl, rules, tests}
+use Rattle.std.proofs.lemmas.Iterator.{YieldsList-from_slice}
+use Rattle.std.proofs.lemmas.Iterator.Search.{position_from_yields_List}
+use Rattle.causal_script.proofs.Numbers.{cut_found, cut_slices}
 use Rattle.causal_script.proofs.tokens.split_at_byte.Goals as goal
 
-pub returns-then-x-byte : goal.returns-then-x-byte
-returns-then-x-byte c = rw (take_rest c.args.text.now (c.loop-at.at + 1), add-one) (sym (cut_at c.args.byte c.args.text.now c.loop-at.at c.loop-at-test.true c.if-x-byte.true c.loop-at.invariant))
-
-pub loop-at-preserved : goal.loop-at-preserved
-loop-at-preserved c = rw add-one (lacks_more c.args.byte c.args.text.now c.loop-at.at c.loop-at-test.true c.if-x-byte.false c.loop-at.invariant)
+pub returns-in_err-at : goal.returns-in_err-at
+returns-in_err-at c =
+    let found = position_from_yields_List (λ b. eqb b c.args.byte) _ _ c.position.result c.position.ensures.ran (YieldsList-from_slice c.args.text.now cc) (λ x b q k. search (rules, tests)) in
+    let none = cut_found c.args.byte c.args.text.now c.position.result None found cc in
+    rw (c.from_residual.ensures, none) refl
 
 pub returns : goal.returns
 returns c =
-    let end : c.loop-at.at ≡ length c.args.text.now = omega arith in
-    sym (cut_none c.args.byte c.args.text.now (subst (Lacks c.args.byte) (ap (λ n. take n c.args.text.now) end ∙ take-length c.args.text.now) c.loop-at.invariant))
+    let found = position_from_yields_List (λ b. eqb b c.args.byte) _ _ c.position.result c.position.ensures.ran (YieldsList-from_slice c.args.text.now cc) (λ x b q k. search (rules, tests)) in
+    let at = cut_found c.args.byte c.args.text.now c.position.result (Some c.in_ok-at.at) found cc in
+    cut_slices c.args.byte c.args.text.now c.split_at.result.0.now c.split_at.result.1.now c.in_ok-at.at c.split_at.ensures.front c.split_at.ensures.back at
