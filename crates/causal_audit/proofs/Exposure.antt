@@ -33,9 +33,6 @@ module _ (n f : ℕ) (past : List Entry) (k : ℕ) (d : Det) (formed : AreLegalE
   crash_is : (q : ℕ) → contains crash q ≡ down_or_holding past d q
   crash_is q = gone_shown n past d formed s.down s.holders state.down state.holders q
 
-  crash_inside : (q : ℕ) → contains crash q ≡ true → q < n
-  crash_inside q h = grind (arith, crash_is q, down_inside, logs_inside)
-
   crash_counted : len crash ≡ count_below n (down_or_holding past d)
   crash_counted = gone_many n past d formed s.down s.holders state.down state.holders
 
@@ -61,9 +58,9 @@ module _ (n f : ℕ) (past : List Entry) (k : ℕ) (d : Det) (formed : AreLegalE
       let here = unheld_parts p least.0 in
       let shown : down_or_holding past d ≡ contains crash = λ i q. sym (crash_is q) i in
       record {
-        process = crash_inside;
+        process = λ q h. grind (arith, crash_is q, down_inside, logs_inside);
         may_crash = subst (IsCrashSet n f past) shown (gone_crash n f past k d at (omega (arith, few, crash_counted)));
-        is_orphan = subst (λ c. IsOrphan n past k c p) shown (gone_orphan n f past k d at p (depends_inside n past k p formed here.0) (sym state.stable ∙ unstable) here.0 here.1);
+        is_orphan = subst (λ c. IsOrphan n past k c p) shown (gone_orphan n f past k d at p (event_inside n past formed here.0.event p _ here.0.present) (sym state.stable ∙ unstable) here.0 here.1);
         least_set = λ other q may orphan w low in_crash. crash_contains n f past k d at other q may orphan w low (sym (crash_is w) ∙ in_crash);
         least_orphan = λ q orphan. least.1 q (unheld_is q orphan.depends (orphan_without n f past k d at (contains crash) q orphan).1);
       }

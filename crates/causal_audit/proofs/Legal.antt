@@ -24,8 +24,7 @@ module _ (n : ℕ) (past : List Entry) where
 -- the process of each event is a process of the run
 pub event_inside : (n : ℕ) (past : List Entry) → AreLegalEntries n past → (i p l : ℕ) → IsEventOf past i p l → p < n
 event_inside n [] h i p l at = absurd at
-event_inside n (e ∷ past) h i p l (inl at) = event_inside n past h.0 i p l at
-event_inside n (e ∷ past) h i p l (inr at) = actor_inside n past e p h.1 at.1
+event_inside n (e ∷ past) h i p l at = grind (arith, event_inside n past h.0 i p l, actor_inside n past e p h.1)
 
 -- an entry that passes the check for a send to p is a send
 pub sent_is : (p : ℕ) (o : Option Entry) → option_map_or (is_send_to p) o false ≡ true → (sender : Pid) × (to : Pid) × (ssn : ℕ) × (o ≡ Some (Send sender to ssn))

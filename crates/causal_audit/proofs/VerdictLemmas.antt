@@ -27,9 +27,6 @@ module _ (r : Recording) (f : ℕ) where
       let n = number_of u k within has in
       none n.0 k u (omega arith) n.1 n.2 (omega (arith, early, low)) has
 
-  no_orphan_ever : EarliestBreach r f 0 (deliveries_in r.past) None → (t : ℕ) → NoOrphanBefore t
-  no_orphan_ever none t u early within = no_orphan_by (length r.past) none (u + 1) (omega (arith, within)) u (omega arith) within
-
   -- nor before the instant of the earliest breach
   pub no_orphan_before : (b : Breach) → IsEarliestBreach r f 0 (deliveries_in r.past) b → (t : ℕ) → t ≤ b.instant → NoOrphanBefore t
   no_orphan_before b least t low u early within k has = grind (arith, number_of u k within has, early, low)
@@ -47,7 +44,7 @@ module _ (r : Recording) (f : ℕ) where
 
   -- without a breach and an excess the verdict accepts
   pub accepted : EarliestBreach r f 0 (deliveries_in r.past) None → FirstExcess r f None → IsVerdict r f Accept
-  accepted none few = λ t within. safe_before (t + 1) t (no_orphan_ever none (t + 1)) (few_ever few (t + 1)) (omega arith) within
+  accepted none few = λ t within. safe_before (t + 1) t (no_orphan_by (length r.past) none (t + 1) (omega (arith, within))) (few_ever few (t + 1)) (omega arith) within
 
   -- the first excess is the verdict if no orphan comes before it
   pub exceeded : (x : Excess) → IsFirstExcess r f x → NoOrphanBefore x.instant → IsVerdict r f (Exceeded x.instant x.down)

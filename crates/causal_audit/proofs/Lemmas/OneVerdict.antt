@@ -1,37 +1,25 @@
 -- A recorded run has exactly one verdict.
-use Rattle.causal_audit.proofs.Common.{ℕ, ◌≡◌, ◌<◌, Bool, true, List, refl, sym, subst, ◌∙◌, arith, nat_cmp, nat_cmp_total, FinSet, contains, same_set, nat_cmp-IsAntisymmetric, nat_tests, IsSubsetBelow, Entry, instant, Recording}
+use Rattle.causal_audit.proofs.Common.{ℕ, ◌≡◌, ◌<◌, Bool, true, List, refl, sym, subst, ◌∙◌, arith, nat_cmp, nat_cmp_total, FinSet, contains, same_set, nat_cmp-IsAntisymmetric, IsSubsetBelow, Entry, instant, Recording}
+use Rattle.std.specs.Cmp.{both_ways}
 use Rattle.causal_audit.specs.declared.verdict.Verdict.TheVariants.{Accept, Exceeded, Orphan}
 use Rattle.causal_audit.specs.Verdicts.{IsFirstUnsafe, HasMembers, IsExcess, IsBreach}
 use Rattle.causal_audit.specs.Laws.{VerdictIsUnique}
 
-three_ways : (G : Type 0) (a b : ℕ) → (a < b → G) → (b < a → G) → (a ≡ b → G) → G
-three_ways G a b below above same = grind arith
-
 one_instant : (r : Recording) (f t u : ℕ) → IsFirstUnsafe r f t → IsFirstUnsafe r f u → t ≡ u
 one_instant r f t u a b = grind arith
 
-same_bool : (a b : Bool) → (a ≡ true → b ≡ true) → (b ≡ true → a ≡ true) → a ≡ b
-same_bool a b h k = grind (arith, nat_tests)
-
 -- two sets are equal if they have the same members below n, and no others
 pub same_members : (n : ℕ) (s t : FinSet nat_cmp) → ((p : ℕ) → contains s p ≡ true → p < n) → ((p : ℕ) → contains t p ≡ true → p < n) → IsSubsetBelow n (contains s) (contains t) → IsSubsetBelow n (contains t) (contains s) → s ≡ t
-same_members n s t below_s below_t there back = same_set nat_cmp_total nat_cmp-IsAntisymmetric s t (λ q. same_bool (contains s q) (contains t q) (λ h. there q (below_s q h) h) (λ h. back q (below_t q h) h))
+same_members n s t below_s below_t there back = same_set nat_cmp_total nat_cmp-IsAntisymmetric s t (λ q. both_ways (contains s q) (contains t q) (λ h. there q (below_s q h) h) (λ h. back q (below_t q h) h))
 
 one_down : (n : ℕ) (test : ℕ → Bool) (s t : FinSet nat_cmp) → HasMembers n s test → HasMembers n t test → s ≡ t
 one_down n test s t a b = same_members n s t a.process b.process (λ p h e. b.member p h ∙ sym (a.member p h) ∙ e) (λ p h e. a.member p h ∙ sym (b.member p h) ∙ e)
 
-one_delivery : (n f : ℕ) (past : List Entry) (k j : ℕ) (c d : FinSet nat_cmp) (p q : ℕ) → IsBreach n f past k c p → IsBreach n f past j d q → k ≡ j
-one_delivery n f past k j c d p q a b =
-    three_ways (k ≡ j) k j
-    (λ h. absurd (b.first k h (record { crash = contains c; orphan = p; may_crash = a.least.may_crash; is_orphan = a.least.is_orphan })))
-    (λ h. absurd (a.first j h (record { crash = contains d; orphan = q; may_crash = b.least.may_crash; is_orphan = b.least.is_orphan })))
-    (λ h. h)
+not_before : (n f : ℕ) (past : List Entry) (k j : ℕ) (c d : FinSet nat_cmp) (p q : ℕ) → IsBreach n f past k c p → IsBreach n f past j d q → k < j → ⊥
+not_before n f past k j c d p q a b h = b.first k h (record { crash = contains c; orphan = p; may_crash = a.least.may_crash; is_orphan = a.least.is_orphan })
 
 one_crash : (n f : ℕ) (past : List Entry) (k : ℕ) (c d : FinSet nat_cmp) (p q : ℕ) → IsBreach n f past k c p → IsBreach n f past k d q → c ≡ d
 one_crash n f past k c d p q a b = same_members n c d a.least.process b.least.process (a.least.least_set (contains d) q b.least.may_crash b.least.is_orphan) (b.least.least_set (contains c) p a.least.may_crash a.least.is_orphan)
-
-one_orphan : (n f : ℕ) (past : List Entry) (k : ℕ) (c : FinSet nat_cmp) (p q : ℕ) → IsBreach n f past k c p → IsBreach n f past k c q → p ≡ q
-one_orphan n f past k c p q a b = omega (arith, a.least.least_orphan q b.least.is_orphan, b.least.least_orphan p a.least.is_orphan)
 
 one_excess : (r : Recording) (f t u : ℕ) (d e : FinSet nat_cmp) → t ≡ u → IsExcess r.processes f (instant r.past t) d → IsExcess r.processes f (instant r.past u) e → Exceeded t d ≡ Exceeded u e
 one_excess r f t u d e same a b = grind (arith, one_down)
@@ -41,11 +29,11 @@ one_breach r f t u k j c d p q same a b =
     let n = r.processes in
     let past = instant r.past u in
     let at : IsBreach n f past k c p = subst (λ x. IsBreach n f (instant r.past x) k c p) same a in
-    let k_j : k ≡ j = one_delivery n f past k j c d p q at b in
+    let k_j : k ≡ j = omega (arith, not_before n f past k j c d p q at b, not_before n f past j k d c q p b at) in
     let at_j : IsBreach n f past j c p = subst (λ x. IsBreach n f past x c p) k_j at in
     let c_d : c ≡ d = one_crash n f past j c d p q at_j b in
     let at_d : IsBreach n f past j d p = subst (λ x. IsBreach n f past j x p) c_d at_j in
-    let p_q : p ≡ q = one_orphan n f past j d p q at_d b in
+    let p_q : p ≡ q = omega (arith, at_d.least.least_orphan q b.least.is_orphan, b.least.least_orphan p at_d.least.is_orphan) in
     λ i. Orphan (same i) (k_j i) (c_d i) (p_q i)
 
 excess_or_breach : {G : Type 0} (r : Recording) (f t u k : ℕ) (d c : FinSet nat_cmp) (p : ℕ) → t ≡ u → IsExcess r.processes f (instant r.past t) d → IsBreach r.processes f (instant r.past u) k c p → G

@@ -1,5 +1,5 @@
 -- Orphans from the processes that are down or hold the determinant.
-use Rattle.causal_audit.proofs.Common.{ℕ, ◌≡◌, ◌<◌, ◌≤◌, inl, inr, Bool, true, false, List, Some, refl, sym, ◌∙◌, arith, ◌⊎◌, or_left, true_from_ne_false, Det, count_below, IsSubsetBelow, Entry, is_down, logs, is_stable, det_at, Depends, IsCrashSet, IsOrphan, HasOrphan, IsSafe, count_below-within, count_below-le}
+use Rattle.causal_audit.proofs.Common.{ℕ, ◌≡◌, ◌<◌, ◌≤◌, cases_Bool, Bool, true, false, List, Some, sym, ◌∙◌, arith, ◌⊎◌, or_left, true_from_ne_false, Det, count_below, IsSubsetBelow, Entry, is_down, logs, is_stable, det_at, Depends, IsCrashSet, IsOrphan, HasOrphan, IsSafe, count_below-within, count_below-le}
 use Rattle.causal_audit.specs.Laws.{down_or_holding, IsExposed, OrphansByCounting, CrashSetsContain, DownOrHoldingIsCrashSet, NoOrphansCondition}
 
 module _ (n f : ℕ) (past : List Entry) (k : ℕ) (d : Det) (at : det_at past k ≡ Some d) where
@@ -46,22 +46,17 @@ gone_is n f past k d at e = grind (arith, gone_crash n f past k d at e.few, orph
 -- in a state that is safe for f at least n, each determinant is stable or logged by all dependents
 covered : (n f : ℕ) (past : List Entry) → n ≤ f → IsSafe n f past → (k : ℕ) (d : Det) → det_at past k ≡ Some d → (is_stable past d ≡ true) ⊎ ((p : ℕ) → p < n → Depends past k p → logs past p d ≡ true)
 covered n f past enough safe k d at =
-    elim (is_stable past d) as (λ b. is_stable past d ≡ b → (b ≡ true) ⊎ ((p : ℕ) → p < n → Depends past k p → logs past p d ≡ true)) [
-      | true ↦ λ _. inl refl
-      | false ↦ λ unstable. inr (λ p below depends. true_from_ne_false (logs past p d) (λ without.
-          safe.no_orphan k (unexposed n f past k d at (record {
-            unstable = unstable;
-            few = omega (arith, enough, count_below-le n (down_or_holding past d));
-            orphan = p;
-            process = below;
-            depends = depends;
-            without = without;
-          }))))
-    ] refl
-
-safe_from_covered : (n f : ℕ) (past : List Entry) → n ≤ f → ((k : ℕ) (d : Det) → det_at past k ≡ Some d → (is_stable past d ≡ true) ⊎ ((p : ℕ) → p < n → Depends past k p → logs past p d ≡ true)) → IsSafe n f past
-safe_from_covered n f past enough each = grind (arith, count_below-le n (is_down past))
+    let none : is_stable past d ≡ false → (p : ℕ) → p < n → Depends past k p → logs past p d ≡ false → ⊥ = λ unstable p below depends without.
+    safe.no_orphan k (unexposed n f past k d at (record {
+      unstable = unstable;
+      few = omega (arith, enough, count_below-le n (down_or_holding past d));
+      orphan = p;
+      process = below;
+      depends = depends;
+      without = without;
+    })) in
+    grind (arith, none, cases_Bool (is_stable past d), true_from_ne_false)
 
 -- for f at least n an instant is safe exactly if each determinant is stable or logged by all dependents
 pub no_orphans : NoOrphansCondition
-no_orphans n f past enough = (covered n f past enough, safe_from_covered n f past enough)
+no_orphans n f past enough = (covered n f past enough, λ each. grind (arith, count_below-le n (is_down past)))

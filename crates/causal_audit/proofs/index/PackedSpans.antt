@@ -13,14 +13,11 @@ use Rattle.causal_audit.specs.Inside.Index.Packed.{ArePacked, HasSpareCapacity, 
 abbrev limit_in : List ListSpan → ℕ → ℕ → ℕ
 limit_in spans number size = (get_or spans (number + 1) (record { begin = size; end = size })).begin
 
-limit_first : (size : ℕ) (s : ListSpan) (rest : List ListSpan) → limit_before size rest ≡ limit_in (s ∷ rest) 0 size
-limit_first size s [] = refl
-limit_first size s (next ∷ rest) = refl
-
 -- a list's capacity is from its start to that of the next list
 capacity_at : (size : ℕ) (spans : List ListSpan) (m : ℕ) (d : ListSpan) → m < length spans → get_or (list_capacities size spans) m 0 ≡ limit_in spans m size - (get_or spans m d).begin
 capacity_at size [] m d there = absurd (omega (arith, there))
-capacity_at size (s ∷ rest) zero d there = ap (λ n. n - s.begin) (limit_first size s rest)
+capacity_at size (s ∷ []) zero d there = refl
+capacity_at size (s ∷ next ∷ rest) zero d there = refl
 capacity_at size (s ∷ rest) (suc m) d there = grind (arith, capacity_at size rest m d (omega (arith, there)))
 
 -- one more list with the last capacity
@@ -85,11 +82,7 @@ module _ (ps : List ℕ) (spans : List ListSpan) (m v : ℕ) (s new : ListSpan) 
   next : m + 1 < length spans → limit_in spans m (length ps) ≡ (get_or spans (m + 1) s).begin
   next inside = ap (λ (x : ListSpan). x.begin) (get_or_default spans (m + 1) nothing s inside)
 
-  -- it is within the vector
-  limit_within : limit_in spans m (length ps) ≤ length ps
-  limit_within = grind (arith, common_steps, next)
-
-  -- and at or before the start of each later list
+  -- it is at or before the start of each later list
   limit_low : (j : ℕ) → m < j → j < length spans → limit_in spans m (length ps) ≤ (get_or spans j s).begin
   limit_low j after inside = grind (arith, eqb_tells j (m + 1), next (omega (arith, after, inside)))
 
@@ -98,7 +91,7 @@ module _ (ps : List ℕ) (spans : List ListSpan) (m v : ℕ) (s new : ListSpan) 
   other j apart inside = grind (arith, here s, outside, limit_low, drop-set-lt)
 
   longer : list_in (set ps s.end v) new ≡ list_at (map (list_in ps) spans) m ++ v ∷ []
-  longer = grind (arith, at_end, limit_within, here s, get_or-map (list_in ps) spans m s [] there)
+  longer = grind (arith, at_end, limit_inside (length ps) spans m s packed, here s, get_or-map (list_in ps) spans m s [] there)
 
   -- the lists are those with the position added
   packed_more : map (list_in (set ps s.end v)) (set spans m new) ≡ with_added (map (list_in ps) spans) m v
@@ -117,7 +110,7 @@ module _ (ps : List ℕ) (spans : List ListSpan) (m v : ℕ) (s new : ListSpan) 
   -- the lists still follow one another
   packed_still : ArePacked (length (set ps s.end v)) (set spans m new)
   packed_still =
-      grind (arith, common_steps, length-set, All-set, limit_within, All-weaker, kept, eqb_tells, get_or-set_same, limit_low, get_or-set_other)
+      grind (arith, common_steps, length-set, All-set, limit_inside (length ps) spans m s packed, All-weaker, kept, eqb_tells, get_or-set_same, limit_low, get_or-set_other)
 
 -- after a position is added to a list with spare capacity: its span ended within the positions, the spans still follow
 -- one another, the lists are those with the position added, and their capacities are unchanged

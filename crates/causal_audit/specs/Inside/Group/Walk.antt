@@ -1,6 +1,6 @@
 -- The state of a walk: by place, what is known of each delivery of the group.
 use Rattle.std.specs.Prelude.{◌≡◌, ℕ, ◌+◌, ◌-◌, ◌<◌, ◌≤◌, ◌↔◌, ◌⊎◌, Bool, true, false, List, ◌∷◌, length, Option, Some, None, slice_index_or, Contains}
-use Rattle.causal_audit.specs.Inside.Common.{nat_cmp, FinSet, contains, empty, Det, Entry, det_at, list_has, logs, is_stable, is_down, instant, entry_at, message_sent, Pid, Send, Crash, AreLegalEntries, Recording, IsWellFormed, actor, Reaches, Depends, Deliver, Restart, Forget, max_entries}
+use Rattle.causal_audit.specs.Inside.Common.{nat_cmp, FinSet, contains, empty, Det, Entry, det_at, list_has, logs, is_stable, is_down, instant, entry_at, message_sent, Pid, Send, AreLegalEntries, Recording, IsWellFormed, actor, Reaches, Depends, Deliver, Restart, Forget, max_entries}
 pub use Rattle.causal_audit.specs.Inside.Group.Rows.{row}
 use Rattle.causal_audit.specs.declared.group.reach.ReachSets.{ReachSets}
 use Rattle.causal_audit.specs.declared.group.walk_input.OpenDelivery.{OpenDelivery}

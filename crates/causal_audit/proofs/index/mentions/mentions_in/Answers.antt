@@ -1,4 +1,4 @@
-use Rattle.causal_audit.proofs.Common.{◌≡◌, ◌+◌, ◌≤◌, List, [], ◌∷◌, length, reverse, reverse-append, reverse-reverse, ◌∙◌, length-append, ap, arith, sym, subst, take, instant, accepted_then, listed_by, listed_in, Entry, Send}
+use Rattle.causal_audit.proofs.Common.{◌≡◌, ◌+◌, ◌≤◌, List, [], ◌∷◌, length, reverse, reverse-append, reverse-reverse, ◌∙◌, length-append, ap, arith, sym, subst, take, instant, accepted_then, listed_by, listed_in, Entry}
 use Rattle.std.proofs.lemmas.Grind.{flat_map-append}
 use Rattle.std.proofs.lemmas.List.Concat.{length-flat_map}
 use Rattle.causal_trace.proofs.Lemmas.WellFormed.{accepted_short}
@@ -19,8 +19,7 @@ numbers_of-requires c =
 
 -- an entry mentions what it lists, and a stable entry one determinant
 mentions_few : (e : Entry) → length (mentioned_dets e) ≤ length (listed_by e) + 1
-mentions_few (Send from to ssn) = omega arith
-mentions_few _ = omega arith
+mentions_few e = grind arith
 
 all_few : (past : List Entry) → length (flat_map mentioned_dets (reverse past)) ≤ listed_in past + length past
 all_few [] = omega arith
