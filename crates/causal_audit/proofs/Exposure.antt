@@ -39,9 +39,6 @@ module _ (n f : ℕ) (past : List Entry) (k : ℕ) (d : Det) (formed : AreLegalE
   unheld_is : (p : ℕ) → Depends past k p → logs past p d ≡ false → contains unheld p ≡ true
   unheld_is p depends without = grind (arith, contains-difference nat_cmp_total s.dependents s.holders p)
 
-  unheld_parts : (p : ℕ) → contains unheld p ≡ true → Depends past k p × (logs past p d ≡ false)
-  unheld_parts p h = grind (arith, contains-difference nat_cmp_total s.dependents s.holders p, parts)
-
   -- if more than f processes are down or hold the determinant, there is no orphan
   pub not_many : f < len crash → HasOrphan n f past k → ⊥
   not_many many has = omega (arith, many, crash_counted, (exposed n f past k d at has).few)
@@ -55,7 +52,7 @@ module _ (n f : ℕ) (past : List Entry) (k : ℕ) (d : Det) (formed : AreLegalE
   -- otherwise the least dependent that does not hold it is the least orphan
   pub least_orphan_is : s.stable ≡ false → len crash ≤ f → (p : ℕ) → IsLeast unheld p → IsLeastOrphan n f past k crash p
   least_orphan_is unstable few p least =
-      let here = unheld_parts p least.0 in
+      let here : Depends past k p × (logs past p d ≡ false) = grind (arith, least.0, contains-difference nat_cmp_total s.dependents s.holders p, parts) in
       let shown : down_or_holding past d ≡ contains crash = λ i q. sym (crash_is q) i in
       record {
         process = λ q h. grind (arith, crash_is q, down_inside, logs_inside);

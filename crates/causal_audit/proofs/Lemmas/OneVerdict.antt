@@ -18,9 +18,6 @@ one_down n test s t a b = same_members n s t a.process b.process (λ p h e. b.me
 not_before : (n f : ℕ) (past : List Entry) (k j : ℕ) (c d : FinSet nat_cmp) (p q : ℕ) → IsBreach n f past k c p → IsBreach n f past j d q → k < j → ⊥
 not_before n f past k j c d p q a b h = b.first k h (record { crash = contains c; orphan = p; may_crash = a.least.may_crash; is_orphan = a.least.is_orphan })
 
-one_crash : (n f : ℕ) (past : List Entry) (k : ℕ) (c d : FinSet nat_cmp) (p q : ℕ) → IsBreach n f past k c p → IsBreach n f past k d q → c ≡ d
-one_crash n f past k c d p q a b = same_members n c d a.least.process b.least.process (a.least.least_set (contains d) q b.least.may_crash b.least.is_orphan) (b.least.least_set (contains c) p a.least.may_crash a.least.is_orphan)
-
 one_excess : (r : Recording) (f t u : ℕ) (d e : FinSet nat_cmp) → t ≡ u → IsExcess r.processes f (instant r.past t) d → IsExcess r.processes f (instant r.past u) e → Exceeded t d ≡ Exceeded u e
 one_excess r f t u d e same a b = grind (arith, one_down)
 
@@ -31,7 +28,7 @@ one_breach r f t u k j c d p q same a b =
     let at : IsBreach n f past k c p = subst (λ x. IsBreach n f (instant r.past x) k c p) same a in
     let k_j : k ≡ j = omega (arith, not_before n f past k j c d p q at b, not_before n f past j k d c q p b at) in
     let at_j : IsBreach n f past j c p = subst (λ x. IsBreach n f past x c p) k_j at in
-    let c_d : c ≡ d = one_crash n f past j c d p q at_j b in
+    let c_d : c ≡ d = same_members n c d at_j.least.process b.least.process (at_j.least.least_set (contains d) q b.least.may_crash b.least.is_orphan) (b.least.least_set (contains c) p at_j.least.may_crash at_j.least.is_orphan) in
     let at_d : IsBreach n f past j d p = subst (λ x. IsBreach n f past j x p) c_d at_j in
     let p_q : p ≡ q = omega (arith, at_d.least.least_orphan q b.least.is_orphan, b.least.least_orphan p at_d.least.is_orphan) in
     λ i. Orphan (same i) (k_j i) (c_d i) (p_q i)

@@ -37,21 +37,18 @@ module _ (x : Entry) (past : List Entry) (events : List Event) (e : Event) (s : 
       receives = λ j i low. grind (arith, cases_lt j (length past), get_or-append events (e ∷ []), get_or-append_seam events e [], s.count, s.receives j i, delivers_old x past j i, delivers_below past j i, sends i);
     }
 
--- an entry other than a restart changes no lane
-abbrev pub KeepsLanes : Entry → List Entry → Type 0
-KeepsLanes x past = (restarts (x ∷ past) ≡ restarts past) × ((q : ℕ) → lane (x ∷ past) q ≡ lane past q)
-
 -- an entry other than a restart, and its event
 pub mirrors_event : (n : ℕ) (past : List Entry) (c : Timeline) (present : List ℕ) (x : Entry) (e : Event) → IsClockWithLanes n past c present
-    → KeepsLanes x past → e.lane < c.lanes → ((p : ℕ) → actor x ≡ Some p → (p < n) × (e.lane ≡ slice_index present p)) → Receives x e.send
+    → restarts (x ∷ past) ≡ restarts past → ((q : ℕ) → lane (x ∷ past) q ≡ lane past q)
+    → e.lane < c.lanes → ((p : ℕ) → actor x ≡ Some p → (p < n) × (e.lane ≡ slice_index present p)) → Receives x e.send
     → IsClockWithLanes n (x ∷ past) (with_event c e) present
-mirrors_event n past c present x e s keeps inside of sends = assumption (stands_more x past c.events e s.stands (λ i p q l a who. grind (arith, of q who, s.present_lane i p q l)) sends, s.opened ∙ sym keeps.0, lanes, present_lane)
+mirrors_event n past c present x e s as_many keeps inside of sends = assumption (stands_more x past c.events e s.stands (λ i p q l a who. grind (arith, of q who, s.present_lane i p q l)) sends, s.opened ∙ sym as_many, lanes, present_lane)
   where
     lanes : (i p l : ℕ) → IsEventOf (x ∷ past) i p l → lane_of (c.events ++ e ∷ []) i < c.lanes
     lanes i p l at = grind (arith, s.lanes i p l, old_lane x past c.events e s.stands i p l, inside, new_lane x past c.events e s.stands i)
 
     present_lane : (i p q l : ℕ) → q < n → IsEventOf (x ∷ past) i p l → (lane_of (c.events ++ e ∷ []) i ≡ slice_index present q) ↔ ((p ≡ q) × (l ≡ lane (x ∷ past) q))
-    present_lane i p q l in_q at = grind (arith, s.present_lane i p q l in_q, old_lane x past c.events e s.stands i p l, keeps.1 q, of p, new_lane x past c.events e s.stands i, s.apart p q)
+    present_lane i p q l in_q at = grind (arith, s.present_lane i p q l in_q, old_lane x past c.events e s.stands i p l, keeps q, of p, new_lane x past c.events e s.stands i, s.apart p q)
 
 -- a restart, the lane that it opens, and its event
 module _ (n : ℕ) (past : List Entry) (c : Timeline) (present : List ℕ) (who : Pid) (listed : List Det) (e : Event) (s : IsClockWithLanes n past c present) (in_who : who.0 < n) (inside : e.lane < c.lanes + 1) (send : e.send ≡ None) where
@@ -114,20 +111,20 @@ module _ (n : ℕ) (past : List Entry) (x : Entry) (c : Timeline) (present : Lis
   pub after_send : (from to : Pid) (ssn : ℕ) → x ≡ Send from to ssn → IsClockWithLanes n (x ∷ past) (with_event c (record { lane = slice_index present from.0; send = None })) present
   after_send from to ssn is =
       let low : from.0 < n = send_inside n past from to ssn (rw is at accepted).1 in
-      rw is (mirrors_event n past c present (Send from to ssn) (record { lane = slice_index present from.0; send = None }) m (refl, λ q. refl) (m.within from.0 low)
+      rw is (mirrors_event n past c present (Send from to ssn) (record { lane = slice_index present from.0; send = None }) m refl (λ q. refl) (m.within from.0 low)
       (λ p k. let one : from.0 ≡ p = cc k in (omega (arith, low, one), ap (slice_index present) one)) not_sent)
 
   pub after_deliver : (to : Pid) (send rsn : ℕ) (listed : List Det) → x ≡ Deliver to send rsn listed → IsClockWithLanes n (x ∷ past) (with_event c (record { lane = slice_index present to.0; send = Some send })) present
   after_deliver to send rsn listed is =
       let low : to.0 < n = deliver_inside n past to send rsn listed (rw is at accepted).1 in
-      rw is (mirrors_event n past c present (Deliver to send rsn listed) (record { lane = slice_index present to.0; send = Some send }) m (refl, λ q. refl) (m.within to.0 low)
+      rw is (mirrors_event n past c present (Deliver to send rsn listed) (record { lane = slice_index present to.0; send = Some send }) m refl (λ q. refl) (m.within to.0 low)
       (λ p k. let one : to.0 ≡ p = cc k in (omega (arith, low, one), ap (slice_index present) one)) (sent_is send))
 
   -- the event of an entry other than a send, delivery or restart
   pub after_other : (y : Entry) → x ≡ y → (restarts (y ∷ past) ≡ restarts past) → ((q : ℕ) → lane (y ∷ past) q ≡ lane past q) → actor y ≡ None → ((i : ℕ) → is_delivery_of i y ≡ false) → 0 < c.lanes
       → IsClockWithLanes n (x ∷ past) (with_event c (record { lane = 0; send = None })) present
   after_other y is keeps same none undelivered some =
-      rw is (mirrors_event n past c present y (record { lane = 0; send = None }) m (keeps, same) some (λ p k. no_actor (sym none ∙ k)) (λ i. subst (λ b. (None ≡ Some i) ↔ (b ≡ true)) (sym (undelivered i)) (not_sent i)))
+      rw is (mirrors_event n past c present y (record { lane = 0; send = None }) m keeps same some (λ p k. no_actor (sym none ∙ k)) (λ i. subst (λ b. (None ≡ Some i) ↔ (b ≡ true)) (sym (undelivered i)) (not_sent i)))
 
   pub after_restart : (who : Pid) (listed : List Det) → x ≡ Restart who listed → IsClockWithLanes n (x ∷ past) (with_event (record c { lanes = c.lanes + 1; opened = c.opened + 1 }) (record { lane = c.lanes; send = None })) (slice_set present who.0 c.lanes)
   after_restart who listed is = rw is (mirrors_restart n past c present who listed (record { lane = c.lanes; send = None }) m (restart_inside n past who listed (rw is at accepted).1) (omega arith) refl)

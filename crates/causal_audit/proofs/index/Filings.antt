@@ -93,15 +93,12 @@ lists_ascend bound lists ascend = All-weaker (Ascends bound) IsNonDecreasing (λ
 
 -- ---- the first crash
 
-crash_from : (past : List Entry) (p v : ℕ) (e : Entry) → entry_at past v ≡ Some e → restarts_or_crashes false p e ≡ true → IsCrashOf past p v
-crash_from past p v e at is = grind (arith, eqb-true)
-
 -- the first position after k in the list of a process is its first crash after k
 pub first_crash_is : (past : List Entry) (lists : List (List ℕ)) (p k end c : ℕ) → AreTransitionsOf false past lists → k + 1 ≤ c → c ≤ end → HasNoneUntil (list_at lists p) (k + 1) c → (c < end → Contains (list_at lists p) c) → IsFirstCrash past p k end c
 first_crash_is past lists p k end c are after within none found = record {
   within = within;
   after = omega (arith, after);
-  found = λ early. let at = are.only p c (found early) in crash_from past p c at.0 at.1 at.2;
+  found = λ early. grind (arith, are.only p c (found early), eqb-true);
   none = λ v above below of. false≢true (sym (are.all p v (Crash of.0) of.1 (none v (omega (arith, above)) below)) ∙ eq-eqb of.0.0 p of.2);
 }
 

@@ -45,21 +45,15 @@ module _ (n : ℕ) (past : List Entry) (formed : AreLegalEntries n past) (i p l 
 
 -- ---- the process of an event, and of a delivery
 
-acting_is : (e : Entry) (p : ℕ) → actor e ≡ Some p → event_process e ≡ p
-acting_is e p is = grind arith
-
 -- an event is an entry of its process
 pub process_of_event : (past : List Entry) (i p l : ℕ) → IsEventOf past i p l → process_at past i ≡ p
 process_of_event [] i p l of = absurd of
-process_of_event (e ∷ past) i p l of = grind (arith, cond-true, cond-false, event_below past i p l, acting_is e p, process_of_event past i p l)
+process_of_event (e ∷ past) i p l of = grind (arith, cond-true, cond-false, event_below past i p l, process_of_event past i p l)
 
 -- the receiver of a delivery is the process of its position
-det_acts : (past : List Entry) (e : Entry) (d : Det) → det_of past e ≡ Some d → event_process e ≡ d.dest.0
-det_acts past e d h = grind arith
-
 pub det_process : (past : List Entry) (k : ℕ) (d : Det) → det_at past k ≡ Some d → process_at past k ≡ d.dest.0
 det_process [] k d at = absurd (let h : None ≡ Some d = at in cc)
-det_process (e ∷ past) k d at = grind (arith, cond-true, cond-false, det_acts past e d, det_process past k d)
+det_process (e ∷ past) k d at = grind (arith, cond-true, cond-false, det_process past k d)
 
 -- ---- until then only the receiver depends on it
 
