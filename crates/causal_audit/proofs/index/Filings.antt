@@ -1,16 +1,14 @@
 -- The lists of positions of an index, with one more position and one more entry.
 use Rattle.std.proofs.lemmas.Grind.{common_steps}
-use Rattle.causal_audit.proofs.Common.{ℕ, ◌≡◌, ◌≢◌, ◌+◌, ◌<◌, ◌≤◌, inl, inr, true, false, List, [], ◌∷◌, ◌++◌, length, Option, Some, None, refl, sym, ap, subst, ◌∙◌, arith, Bool, ◌⊎◌, Contains, ◌==◌, ◌&&◌, option_map_or, All, get_or-eq_default, cases_lt, false≢true, cond-true, cond-false, false_from_ne_true, eqb-true, eq-eqb, ne_eqb, or_cases, or_left, or_right, get_or-set_same, get_or-set_other, get_or_past, All-push, All-set, All-get_or, All-weaker, Contains-append_left, Contains-push, Contains-push_cases, IsNonDecreasingBy-push, Entry, entry_at, list_has, nat_cmp, FinSet, contains, empty, remove, contains-empty, IsNonDecreasing, Crash, Det, same_det}
+use Rattle.causal_audit.proofs.Common.{ℕ, nat_tests, ◌≡◌, ◌≢◌, ◌+◌, ◌<◌, ◌≤◌, inl, inr, true, false, List, [], ◌∷◌, ◌++◌, length, Option, Some, None, refl, sym, subst, ◌∙◌, arith, Bool, ◌⊎◌, Contains, ◌==◌, option_map_or, All, get_or-eq_default, cases_lt, false≢true, cond-true, cond-false, false_from_ne_true, eqb-true, eq-eqb, ne_eqb, or_cases, or_left, or_right, get_or-set_same, get_or-set_other, get_or_past, All-push, All-set, All-get_or, All-weaker, Contains-append_left, Contains-push, Contains-push_cases, IsNonDecreasingBy-push, Entry, list_has, nat_cmp, FinSet, contains, empty, remove, contains-empty, IsNonDecreasing, Crash, Det, same_det}
 use Rattle.causal_audit.specs.Inside.Index.Lists.{Ascends, list_at, with_added, AreMentions, AreMentionsWith, mentions_of, AreTransitionsOf, IsFirstCrash, restarts_or_crashes}
 use Rattle.causal_audit.specs.Inside.PositionLists.{HasNoneUntil}
 use Rattle.causal_audit.specs.Inside.SafetyScan.Persistence.{restarts_one, CrashesNone, RestartsNone}
-use Rattle.causal_audit.specs.Covered.{IsCrashOf}
 use Rattle.causal_audit.proofs.group.GroupReach.{left_out}
 use Rattle.causal_audit.proofs.Steps.{entry_cases}
 use Rattle.causal_audit.proofs.index.Receivers.{newest_entry, older_entry}
 use Rattle.causal_trace.specs.Past.{mentioned_dets}
-use Rattle.std.specs.Prelude.{nat_lt}
-use Rattle.std.proofs.lemmas.Bool.{le-ltb, lt-ltb}
+use Rattle.std.proofs.lemmas.Bool.{lt-ltb}
 use Rattle.std.proofs.lemmas.List.{length-set}
 use Rattle.causal_trace.specs.Numbers.{number_of}
 use Rattle.causal_trace.proofs.Lemmas.DeliveryNumbers.{number_below, found_below, numbers_apart}
@@ -138,15 +136,11 @@ none_crashes past lists members from next are none v who late early at =
 
 -- ---- numbers
 
--- a number at or above a bound belongs to no delivery below it
-pub too_late : (k m : ℕ) (b : Bool) → m ≤ k → (nat_lt k m && b) ≡ false
-too_late k m b later = ap (λ c. c && b) (le-ltb k m later)
-
 -- the newest among the first m deliveries is the newest up to itself
 pub number_of_found : (m : ℕ) (dets : List Det) (d : Det) (j : ℕ) → number_of m dets d ≡ Some j → number_of (j + 1) dets d ≡ Some j
 number_of_found m [] d j is = absurd (let x : None ≡ Some j = is in cc)
 number_of_found m (x ∷ older) d j is =
-    grind (arith, cond-true, lt-ltb, cond-false, found_below, number_below m older d, too_late, number_of_found m older d j)
+    grind (arith, cond-true, lt-ltb, cond-false, found_below, number_below m older d, nat_tests, number_of_found m older d j)
 
 -- ---- one more position in the list of a determinant
 

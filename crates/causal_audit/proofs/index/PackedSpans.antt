@@ -4,7 +4,6 @@ use Rattle.causal_audit.proofs.Common.{cases_lt, get_or_past, ℕ, ◌≡◌, �
 use Rattle.std.proofs.lemmas.List.{drop-set-add, drop-set-lt, ext_get_or, length-drop, length-take-le, take-set-le}
 use Rattle.std.proofs.lemmas.Bool.Decides.{eqb_tells}
 use Rattle.std.proofs.Math.Seq.{take-suc-set}
-use Rattle.std.specs.List.{slice_range}
 use Rattle.causal_audit.specs.declared.index.packed_lists.ListSpan.{ListSpan}
 use Rattle.causal_audit.specs.Inside.Index.Lists.{list_at, with_added}
 use Rattle.causal_audit.specs.Inside.Index.Packed.{ArePacked, HasSpareCapacity, IsSpan, list_capacities, limit_before, list_in}
@@ -66,10 +65,6 @@ packed_push b limit spans new is more packed = grind (arith, common_steps, All-p
 outside : (ps : List ℕ) (e v : ℕ) (s : ListSpan) → (s.end ≤ e) × (s.begin ≤ s.end) → list_in (set ps e v) s ≡ list_in ps s
 outside ps e v s is = grind (arith, drop-set-add s.begin ps (e - s.begin) v, take-set-le)
 
--- a write at its end appends to it
-at_end : (ps : List ℕ) (v : ℕ) (s : ListSpan) → s.begin ≤ s.end → s.end < length ps → slice_range (set ps s.end v) s.begin (s.end + 1) ≡ list_in ps s ++ v ∷ []
-at_end ps v s order below = grind (arith, drop-set-add s.begin ps (s.end - s.begin) v, take-suc-set, length-drop s.begin ps)
-
 module _ (ps : List ℕ) (spans : List ListSpan) (m v : ℕ) (s new : ListSpan) (packed : ArePacked (length ps) spans) (there : m < length spans) (is : s ≡ get_or spans m s) (room : s.end + 1 ≤ limit_in spans m (length ps))
     (begin : new.begin ≡ s.begin) (end : new.end ≡ s.end + 1) where
   here : (d : ListSpan) → get_or spans m d ≡ s
@@ -91,7 +86,7 @@ module _ (ps : List ℕ) (spans : List ListSpan) (m v : ℕ) (s new : ListSpan) 
   other j apart inside = grind (arith, here s, outside, limit_low, drop-set-lt)
 
   longer : list_in (set ps s.end v) new ≡ list_at (map (list_in ps) spans) m ++ v ∷ []
-  longer = grind (arith, at_end, limit_inside (length ps) spans m s packed, here s, get_or-map (list_in ps) spans m s [] there)
+  longer = grind (arith, drop-set-add s.begin ps (s.end - s.begin) v, take-suc-set, length-drop s.begin ps, limit_inside (length ps) spans m s packed, here s, get_or-map (list_in ps) spans m s [] there)
 
   -- the lists are those with the position added
   packed_more : map (list_in (set ps s.end v)) (set spans m new) ≡ with_added (map (list_in ps) spans) m v
