@@ -104,9 +104,6 @@ module _ (x : Entry) (c : Timeline) (present : List ℕ) (can : CanExtendClock x
       let few : restarts can.past + 1 ≤ 192 = subst (λ y. restarts (y ∷ can.past) ≤ 192) is can.lanes in
       omega (arith, can.mirrors.opened, few)
 
-sent_is : (send i : ℕ) → (Some send ≡ Some i) ↔ ((send == i) ≡ true)
-sent_is send i = (λ h. eq-eqb send i (let k : Some send ≡ Some i = h in cc), λ h. ap Some (eqb-true send i h))
-
 module _ (n : ℕ) (past : List Entry) (x : Entry) (c : Timeline) (present : List ℕ) (accepted : AreLegalEntries n (x ∷ past)) (m : IsClockWithLanes n past c present) where
   pub after_send : (from to : Pid) (ssn : ℕ) → x ≡ Send from to ssn → IsClockWithLanes n (x ∷ past) (with_event c (record { lane = slice_index present from.0; send = None })) present
   after_send from to ssn is =
@@ -118,7 +115,7 @@ module _ (n : ℕ) (past : List Entry) (x : Entry) (c : Timeline) (present : Lis
   after_deliver to send rsn listed is =
       let low : to.0 < n = deliver_inside n past to send rsn listed (rw is at accepted).1 in
       rw is (mirrors_event n past c present (Deliver to send rsn listed) (record { lane = slice_index present to.0; send = Some send }) m refl (λ q. refl) (m.within to.0 low)
-      (λ p k. let one : to.0 ≡ p = cc k in (omega (arith, low, one), ap (slice_index present) one)) (sent_is send))
+      (λ p k. let one : to.0 ≡ p = cc k in (omega (arith, low, one), ap (slice_index present) one)) (λ i. grind (arith, eq-eqb, eqb-true)))
 
   -- the event of an entry other than a send, delivery or restart
   pub after_other : (y : Entry) → x ≡ y → (restarts (y ∷ past) ≡ restarts past) → ((q : ℕ) → lane (y ∷ past) q ≡ lane past q) → actor y ≡ None → ((i : ℕ) → is_delivery_of i y ≡ false) → 0 < c.lanes

@@ -28,10 +28,6 @@ pub spare_all : (s : ListsWithCapacities) (counts numbers : List ℕ) → ((m : 
 spare_all s counts numbers empty same many each m low =
     omega (arith, ap length (empty m), ap (λ xs. get_or xs m 0) same, each m (omega (arith, low, many)))
 
--- no number occurs in no numbers
-pub none_counted : (count : ℕ) → AreOccurrences (replicate count 0) []
-none_counted count m low = grind (arith, common_steps)
-
 module _ (counts numbers : List ℕ) (i : ℕ) (inside : i < length numbers) (each : AreOccurrences counts (take i numbers)) where
   abbrev v : ℕ
   v = get_or numbers i 0

@@ -34,9 +34,6 @@ module _ (past : List Entry) (list : List ℕ) (downs : List (FinSet nat_cmp)) (
 
 -- ---- a scan to the next restart of one of these processes
 
-restarts_turn : (members : FinSet nat_cmp) (e : Entry) → restarts_one members e ≡ true → is_transition e ≡ true
-restarts_turn members e h = grind arith
-
 -- the passed transitions from `from` on restart none of these processes
 abbrev pub PassNone : List Entry → List ℕ → FinSet nat_cmp → ℕ → ℕ → Type 0
 PassNone past list members from passed =
@@ -47,8 +44,9 @@ module _ (past : List Entry) (list : List ℕ) (downs : List (FinSet nat_cmp)) (
   pub none_restarts : (u : ℕ) → ((i v : ℕ) → passed ≤ i → i < length list → u ≤ get_or list i v) → RestartsNone past members from u
   none_restarts u rest v e late early at =
       false_from_ne_true (restarts_one members e) (λ is.
-      false≢true (sym (are.turned v e at (λ listed.
-      grind (arith, get_or_default list listed.0 0 v listed.1, none listed.0 e, rest listed.0 v, listed.2))) ∙ restarts_turn members e is))
+      let quiet : is_transition e ≡ false = are.turned v e at (λ listed.
+      grind (arith, get_or_default list listed.0 0 v listed.1, none listed.0 e, rest listed.0 v, listed.2)) in
+      grind (arith, quiet, is))
 
   module _ (x : ℕ) (there : passed < length list) (is : x ≡ get_or list passed x) where
     -- none that is left is before the next one

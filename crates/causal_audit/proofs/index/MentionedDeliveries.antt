@@ -43,14 +43,11 @@ all_delivered n (e ∷ past) legal =
 
 -- ---- so they have numbers
 
-one_more_kept : (many : ℕ) (o : Option Det) (older : List Det) (d : Det) → is_some (number_of many older d) ≡ true → is_some (number_of many (option_map_or (λ x. x ∷ older) o older) d) ≡ true
-one_more_kept many o older d h = grind (arith, cond-true, cond-false)
-
 -- a delivery before an instant has a number among as many deliveries as there are before it, or more
 number_then : (past : List Entry) (end many : ℕ) (d : Det) → end ≤ length past → deliveries_in (instant past end) ≤ many → is_delivered (instant past end) d ≡ true → is_some (number_of many (delivered_dets past) d) ≡ true
 number_then [] end many d within few h = grind arith
 number_then (e ∷ past) end many d within few h =
-    grind (arith, cases_lt (length past) end, one_more_instant e past, delivered_numbered many (e ∷ past) d, listed_once (e ∷ past), instants_stay e past end, one_more_kept, number_then past end many d)
+    grind (arith, cases_lt (length past) end, one_more_instant e past, delivered_numbered many (e ∷ past) d, listed_once (e ∷ past), instants_stay e past end, cond-true, cond-false, number_then past end many d)
 
 -- the determinants that entries before an instant mention have numbers among these deliveries
 pub mentioned_numbered : (r : Recording) (es : List Entry) → es ≡ entries_of r → AreLegalEntries r.processes r.past → (end many : ℕ) → end ≤ length r.past → deliveries_in (instant r.past end) ≤ many

@@ -124,11 +124,6 @@ stays_with n past formed departures are k v p l before of reach = grind (arith, 
 abbrev Fell : ℕ → ℕ → List Entry → Type 0
 Fell p l past = ((is_down past p ≡ true) × (l ≤ lane past p)) ⊎ (l < lane past p)
 
-fell_more : (e : Entry) (past : List Entry) (p l : ℕ) → Fell p l past → Fell p l (e ∷ past)
-fell_more (Crash who) past p l h = grind (arith, nat_tests)
-fell_more (Restart who listed) past p l h = grind arith
-fell_more _ past p l h = h
-
 -- no process depends on such a delivery
 pub crashed : CrashedHasNoDependents
 crashed n past k d spread c u q formed at departures crash after before low within depends =
@@ -139,7 +134,7 @@ crashed n past k d spread c u q formed at departures crash after before low with
     let down : is_down then q ≡ true = grind (arith, entry_then, eq-eqb) in
     let lane_low : from.1 ≤ lane then q = subst (λ x. from.1 ≤ lane then x) (sym same.0) (event_lane then k from.0 from.1 from.2) in
     let fell : Fell q from.1 (instant past u) =
-    onward_to (Fell q from.1) past (c + 1) u (omega (arith, before)) within (λ v e above below there h. fell_more e (instant past v) q from.1 h) (inl (down, lane_low)) in
+    onward_to (Fell q from.1) past (c + 1) u (omega (arith, before)) within (λ v e above below there h. grind (arith, nat_tests)) (inl (down, lane_low)) in
     grind (arith, fell, depends.up, same.1)
 
 -- ==== the determinant of a delivery with an orphan is at risk

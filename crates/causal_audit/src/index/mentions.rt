@@ -129,7 +129,6 @@ fn numbers_of(
 ///
 /// # Errors
 /// `NoMemory` if allocation fails.
-#[tactic(auto, using(crate::proofs::index::Capacities::none_counted))]
 fn occurrences(alloc: Global, numbers: &[u32], count: usize) -> Result<Vec<u32>, NoMemory>
     requires low { All (λ number. number < count) numbers.now }
     requires few { length numbers.now < 2 ^ 32 }
