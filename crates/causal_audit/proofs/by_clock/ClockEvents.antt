@@ -1,5 +1,5 @@
 -- The event of one more entry: it may be added, and the clock then represents one more entry.
-use Rattle.causal_audit.proofs.Common.{ℕ, ◌≡◌, ◌+◌, ◌<◌, ◌≤◌, true, List, [], ◌∷◌, ◌++◌, length, Option, Some, None, refl, sym, ap, ◌∙◌, arith, length-append, false, subst, ◌↔◌, slice_index, slice_set, ◌==◌, get_or-append, get_or-append_seam, false≢true, cases_lt, eq-eqb, eqb-true, eqb_tells, get_or-set_other, length-set, Pid, Det, Entry, Restart, Send, Deliver, lane, restarts, actor, is_delivery_of, IsEventOf, event_below, event_lane, AreLegalEntries, delivers_sent, sent_within}
+use Rattle.causal_audit.proofs.Common.{ℕ, ◌≡◌, ◌+◌, ◌<◌, ◌≤◌, true, List, [], ◌∷◌, ◌++◌, length, Option, Some, None, refl, sym, ap, ◌∙◌, arith, length-append, false, subst, ◌↔◌, slice_index, slice_set, get_or-append, get_or-append_seam, false≢true, cases_lt, eq-eqb, eqb-true, eqb_tells, get_or-set_other, length-set, Pid, Det, Entry, Restart, Send, Deliver, lane, restarts, actor, is_delivery_of, IsEventOf, event_below, event_lane, AreLegalEntries, delivers_sent, sent_within}
 use Rattle.causal_clock.specs.declared.Event.{Event}
 use Rattle.causal_clock.specs.Timeline.{Timeline, lane_of, with_event}
 use Rattle.causal_audit.specs.Inside.ByClock.ClockOfRun.{IsClockOf, IsClockWithLanes, CanExtendClock}

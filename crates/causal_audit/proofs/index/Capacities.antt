@@ -2,7 +2,7 @@
 use Rattle.std.proofs.lemmas.Grind.{common_steps}
 use Rattle.std.proofs.lemmas.List.Sums.{count_by-le-length, count_by_more_no, count_by_more_yes, sum_by-append, sum_by-cons}
 use Rattle.std.specs.Prelude.{count_by}
-use Rattle.causal_audit.proofs.Common.{ℕ, ◌≡◌, ◌+◌, ◌<◌, ◌≤◌, ◌==◌, cond, cond-true, List, [], ◌∷◌, ◌++◌, length, get_or, set, take, replicate, ap, arith, eq-eqb, eqb_tells, length-append, length-set, get_or-set_same, get_or-set_other}
+use Rattle.causal_audit.proofs.Common.{ℕ, ◌≡◌, ◌+◌, ◌<◌, ◌≤◌, ◌==◌, cond, cond-true, List, [], ◌∷◌, ◌++◌, length, get_or, set, take, ap, arith, eq-eqb, eqb_tells, length-append, length-set, get_or-set_same, get_or-set_other}
 use Rattle.causal_audit.specs.Inside.Index.Lists.{list_at, with_added}
 use Rattle.causal_audit.specs.Inside.Index.Packed.{AreOccurrences, HasSpareCapacity, HaveCapacityFor, ListsWithCapacities}
 

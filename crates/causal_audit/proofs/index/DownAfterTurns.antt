@@ -1,6 +1,6 @@
 -- The crashes and restarts, and the down processes after each.
 use Rattle.std.proofs.lemmas.Grind.{common_steps}
-use Rattle.causal_audit.proofs.Common.{ℕ, ◌≡◌, ◌+◌, ◌-◌, ◌<◌, ◌≤◌, true, false, List, length, get_or, Some, sym, subst, ◌∙◌, arith, nat_cmp, FinSet, contains, empty, IsPartitionPoint, false≢true, false_from_ne_true, get_or_default, Entry, instant, entry_at, is_down}
+use Rattle.causal_audit.proofs.Common.{ℕ, ◌≡◌, ◌+◌, ◌-◌, ◌<◌, ◌≤◌, false, List, length, get_or, Some, sym, subst, ◌∙◌, arith, nat_cmp, FinSet, contains, empty, IsPartitionPoint, false_from_ne_true, get_or_default, Entry, instant, entry_at, is_down}
 use Rattle.causal_audit.specs.declared.index.transitions.Transitions.{Transitions}
 use Rattle.causal_audit.specs.declared.index.transitions.TransitionCursor.{TransitionCursor}
 use Rattle.causal_audit.specs.Inside.Index.Lists.{AreTransitions}

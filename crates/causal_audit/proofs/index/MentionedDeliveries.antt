@@ -1,5 +1,5 @@
 -- Each determinant that an entry mentions is that of a delivery, so it has a number.
-use Rattle.causal_audit.proofs.Common.{ℕ, ◌≡◌, ◌≤◌, true, List, [], ◌∷◌, length, reverse, take, Option, None, refl, sym, ap, subst, ◌∙◌, arith, not, ◌||◌, All, All-cons, All-nil, All-permutation, All-weaker, option_map_or, is_some, cases_lt, cond-true, cond-false, or_right, take_all, reverse-reverse, Det, Entry, Deliver, Stable, Restart, Forget, Recording, AreLegalEntries, accepted_then, deliveries_in, det_of, entries_of, first_fault, instant, instants_stay, one_more_instant, row_fails}
+use Rattle.causal_audit.proofs.Common.{ℕ, ◌≡◌, ◌≤◌, true, List, [], ◌∷◌, length, reverse, take, None, refl, sym, ap, subst, ◌∙◌, arith, not, ◌||◌, All, All-cons, All-nil, All-permutation, All-weaker, is_some, cases_lt, cond-true, cond-false, or_right, take_all, reverse-reverse, Det, Entry, Deliver, Stable, Restart, Forget, Recording, AreLegalEntries, accepted_then, deliveries_in, det_of, entries_of, first_fault, instant, instants_stay, one_more_instant, row_fails}
 use Rattle.std.proofs.lemmas.List.Sums.{AllPass-from_list_all}
 use Rattle.std.proofs.lemmas.List.Sorted.{IsPermutation-reverse}
 use Rattle.causal_trace.specs.Past.{is_delivered, is_det, mentioned_dets}

@@ -1,5 +1,5 @@
 -- When the effect of a delivery leaves its receiver, and what this implies for its orphans.
-use Rattle.causal_audit.proofs.Common.{ℕ, ◌≡◌, ◌<◌, ◌≤◌, inl, inr, true, false, List, [], ◌∷◌, length, Some, None, sym, ap, subst, ◌∙◌, arith, get_or, delivers_sent, message_sent, option_and_then, ◌+◌, ◌⊎◌, ◌==◌, slice_set, option_map, option_map_or, cases_lt, false≢true, eqb-true, eq-eqb, or_from, cond-true, cond-false, false_from_ne_true, nat_tests, Pid, Det, Entry, Send, Deliver, Crash, Restart, instant, is_down, is_send_to, logs, lane, det_at, det_of, det_from, entry_at, AreLegalEntries, Depends, IsEventOf, Delivers, DirectlyPrecedes, in_order, by_message, Reaches, itself, onward, is_delivery_of, accepted_forward, event_below, event_lane, instant_length, det_then, HasOrphan, length-set, get_or-set_other}
+use Rattle.causal_audit.proofs.Common.{ℕ, ◌≡◌, ◌<◌, ◌≤◌, inl, inr, true, false, List, [], ◌∷◌, length, Some, None, sym, ap, subst, ◌∙◌, arith, get_or, delivers_sent, message_sent, option_and_then, ◌+◌, ◌⊎◌, ◌==◌, slice_set, option_map, option_map_or, cases_lt, false≢true, eqb-true, eq-eqb, or_from, cond-true, cond-false, false_from_ne_true, nat_tests, Pid, Det, Entry, Send, Deliver, instant, is_down, is_send_to, logs, lane, det_at, det_of, det_from, entry_at, AreLegalEntries, Depends, IsEventOf, Delivers, DirectlyPrecedes, in_order, by_message, Reaches, itself, onward, is_delivery_of, accepted_forward, event_below, event_lane, instant_length, det_then, HasOrphan, length-set, get_or-set_other}
 use Rattle.causal_audit.specs.Laws.{down_or_holding}
 use Rattle.causal_audit.specs.Covered.{LocalHasNoOtherDependents, CoveredHasNoOrphan, StaysLocalUntil, CrashedHasNoDependents}
 use Rattle.causal_trace.proofs.Lemmas.DependenceSteps.{event_once, delivers_below, precedes_before}
