@@ -1,14 +1,14 @@
 -- The deliveries of a run by their numbers.
-use Rattle.causal_audit.proofs.Common.{zero, suc, drop, ◌-◌, ℕ, ◌≡◌, ◌<◌, ◌≤◌, inl, inr, true, List, [], ◌∷◌, length, Some, refl, arith, false≢true, eq-eqb, is_delivery_of, Delivers, Det, Entry, Deliver, instant, det_at, deliveries_in, AreLegalEntries}
+use Rattle.causal_audit.proofs.Common.{ℕ, ◌≡◌, ◌<◌, ◌≤◌, inl, inr, true, List, [], ◌∷◌, length, Some, refl, arith, false≢true, eq-eqb, is_delivery_of, Delivers, Det, Entry, Deliver, instant, det_at, deliveries_in, AreLegalEntries}
 use Rattle.causal_audit.specs.Numbers.{is_delivery, IsNumbered}
 use Rattle.causal_audit.proofs.index.Receivers.{delivered}
+use Rattle.causal_trace.proofs.Lemmas.AtInstants.{at_instant}
 use Rattle.causal_audit.proofs.Lemmas.NumberLemmas.{no_fewer, one_more}
 
 -- a run has no more deliveries than entries
 pub deliveries_few : (past : List Entry) → deliveries_in past ≤ length past
 deliveries_few [] = omega arith
-deliveries_few (Deliver to send rsn listed ∷ past) = omega (arith, deliveries_few past)
-deliveries_few (e ∷ past) = omega (arith, deliveries_few past)
+deliveries_few (e ∷ past) = grind (arith, deliveries_few past)
 
 -- a delivery's number is below the number of deliveries
 pub numbered_below : (past : List Entry) (i k : ℕ) → IsNumbered past i k → i < deliveries_in past
@@ -20,19 +20,13 @@ pub numbered_one : (past : List Entry) (i j k : ℕ) → IsNumbered past i j →
 numbered_one [] i j k a b = absurd a
 numbered_one (e ∷ past) i j k a b = grind (arith, numbered_one past i j k, numbered_below past i)
 
--- a fact that survives one more entry holds of the whole run if it holds at an instant
-newer : (P : List Entry → Type 0) → ((e : Entry) (past : List Entry) → P past → P (e ∷ past)) → (n : ℕ) (past : List Entry) → P (drop n past) → P past
-newer P step zero past h = h
-newer P step (suc n) [] h = h
-newer P step (suc n) (e ∷ past) h = step e past (newer P step n past h)
-
 -- a delivery has the same number at each later instant
 pub numbered_later : (past : List Entry) (t i k : ℕ) → t ≤ length past → IsNumbered (instant past t) i k → IsNumbered past i k
-numbered_later past t i k within n = newer (λ p. IsNumbered p i k) (λ e p h. inl h) (length past - t) past n
+numbered_later past t i k within = at_instant (λ x. IsNumbered x i k → IsNumbered past i k) (λ e x h n. h (inl n)) past t (λ n. n)
 
 -- there are no more deliveries before an instant than in the whole run
-pub instants_fewer : (past : List Entry) (t : ℕ) → t ≤ length past → deliveries_in (instant past t) ≤ deliveries_in past
-instants_fewer past t within = newer (λ p. deliveries_in (instant past t) ≤ deliveries_in p) (λ e p h. omega (arith, h, no_fewer e p)) (length past - t) past (omega arith)
+pub instants_fewer : (past : List Entry) (t : ℕ) → deliveries_in (instant past t) ≤ deliveries_in past
+instants_fewer past t = at_instant (λ x. deliveries_in x ≤ deliveries_in past) (λ e x h. omega (arith, h, no_fewer e x)) past t (omega arith)
 
 -- a numbered delivery delivers a message
 delivery_of : (e : Entry) → is_delivery e ≡ true → (s : ℕ) × (is_delivery_of s e ≡ true)

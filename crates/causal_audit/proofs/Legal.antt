@@ -13,10 +13,6 @@ module _ (n : ℕ) (past : List Entry) where
   unfolding rows_within
   sends_up from to ssn legal = row_fails (refusal_rows n past (Send from to ssn)) legal 2 (is_down past from.0, NotUp) refl
 
-  -- the process of an event is a process of the run, and up
-  pub actor_inside : (e : Entry) (p : ℕ) → first_fault n past e ≡ None → actor e ≡ Some p → p < n
-  actor_inside e p legal of = grind (arith, send_inside, deliver_inside)
-
   -- the run is below its maximum length before the entry
   pub entry_short : (e : Entry) → first_fault n past e ≡ None → length past < 16777216
   entry_short e legal = omega (arith, (limits (length past) (listed_in past) (length (listed_by e)) (within_limits n past e legal)).0)
@@ -24,8 +20,7 @@ module _ (n : ℕ) (past : List Entry) where
 -- the process of each event is a process of the run
 pub event_inside : (n : ℕ) (past : List Entry) → AreLegalEntries n past → (i p l : ℕ) → IsEventOf past i p l → p < n
 event_inside n [] h i p l at = absurd at
-event_inside n (e ∷ past) h i p l (inl at) = event_inside n past h.0 i p l at
-event_inside n (e ∷ past) h i p l (inr at) = actor_inside n past e p h.1 at.1
+event_inside n (e ∷ past) h i p l at = grind (arith, event_inside n past h.0 i p l, send_inside, deliver_inside, h.1)
 
 -- an entry that passes the check for a send to p is a send
 pub sent_is : (p : ℕ) (o : Option Entry) → option_map_or (is_send_to p) o false ≡ true → (sender : Pid) × (to : Pid) × (ssn : ℕ) × (o ≡ Some (Send sender to ssn))

@@ -1,5 +1,5 @@
 -- The state of a delivery before its first mention.
-use Rattle.causal_audit.proofs.Common.{ℕ, zero, suc, ◌≡◌, ◌+◌, ◌-◌, ◌<◌, ◌≤◌, false, List, ◌∷◌, length, Some, refl, sym, ap, subst, ◌∙◌, arith, nat_tests, Det, Entry, Send, instant, entry_at, is_down, is_stable, logs, list_has, reaches_begins, instant_length}
+use Rattle.causal_audit.proofs.Common.{ℕ, zero, suc, ◌≡◌, ◌+◌, ◌<◌, ◌≤◌, inl, inr, cases_lt, false, List, ◌∷◌, length, Some, refl, sym, ap, subst, ◌∙◌, arith, nat_tests, Det, Entry, instant, entry_at, is_down, is_stable, logs, list_has, reaches_begins, instant_length}
 use Rattle.causal_trace.specs.Past.{mentioned_dets}
 use Rattle.causal_audit.specs.Quiet.{is_transition}
 use Rattle.causal_audit.specs.Inside.DeliveryStates.{IsUnknownToAll}
@@ -9,23 +9,18 @@ use Rattle.causal_trace.proofs.Lemmas.AtInstants.{no_entry}
 
 -- ---- from an instant to a later one, entry by entry
 
-module _ (P : List Entry → Type 0) (past : List Entry) (s : ℕ) where
-  onward_for : (more : ℕ) → s + more ≤ length past → ((v : ℕ) (e : Entry) → s ≤ v → v < s + more → entry_at past v ≡ Some e → P (instant past v) → P (e ∷ instant past v)) → P (instant past s) → P (instant past (s + more))
-  onward_for zero within step here = let same : s ≡ s + 0 = omega arith in subst (λ x. P (instant past x)) same here
-  onward_for (suc more) within step here =
-      let found = next_entry past (s + more) (omega (arith, within)) in
-      let same : s + more + 1 ≡ s + suc more = omega arith in
-      subst (λ x. P (instant past x)) same
-      (subst P (sym found.2)
-      (step (s + more) found.0 (omega arith) (omega arith) found.1
-      (onward_for more (omega (arith, within)) (λ v e above below at. step v e above (omega (arith, below)) at) here)))
-
-  -- a property of an instant that each entry preserves holds at a later instant
-  pub onward_to : (t : ℕ) → s ≤ t → t ≤ length past → ((v : ℕ) (e : Entry) → s ≤ v → v < t → entry_at past v ≡ Some e → P (instant past v) → P (e ∷ instant past v)) → P (instant past s) → P (instant past t)
-  onward_to t up within step here =
-      let same : s + (t - s) ≡ t = omega (arith, up) in
-      subst (λ x. P (instant past x)) same
-      (onward_for (t - s) (omega (arith, same, within)) (λ v e above below at. step v e above (omega (arith, below, same)) at) here)
+-- a property of an instant that each entry preserves holds at a later instant
+pub onward_to : (P : List Entry → Type 0) (past : List Entry) (s t : ℕ) → s ≤ t → t ≤ length past → ((v : ℕ) (e : Entry) → s ≤ v → v < t → entry_at past v ≡ Some e → P (instant past v) → P (e ∷ instant past v)) → P (instant past s) → P (instant past t)
+onward_to P past s zero up within step here = let same : s ≡ 0 = omega (arith, up) in subst (λ x. P (instant past x)) same here
+onward_to P past s (suc t) up within step here =
+    elim (cases_lt t s) [
+      | inl end ↦ let same : s ≡ suc t = omega (arith, end, up) in subst (λ x. P (instant past x)) same here
+      | inr later ↦
+          let found = next_entry past t (omega (arith, within)) in
+          let same : t + 1 ≡ suc t = omega arith in
+          let so_far = onward_to P past s t later (omega (arith, within)) (λ v e above below at. step v e above (omega (arith, below)) at) here in
+          subst (λ x. P (instant past x)) same (subst P (sym found.2) (step t found.0 later (omega arith) found.1 so_far))
+    ]
 
 -- the same processes are down if none crashed or restarted in between
 pub down_stays : (past : List Entry) (s t : ℕ) → s ≤ t → t ≤ length past → ((v : ℕ) (e : Entry) → s ≤ v → v < t → entry_at past v ≡ Some e → is_transition e ≡ false) → (p : ℕ) → is_down (instant past s) p ≡ is_down (instant past t) p
@@ -36,8 +31,7 @@ down_stays past s t up within quiet p =
 -- ---- before the first mention
 
 unlogged_stays : (e : Entry) (past : List Entry) (d : Det) → list_has (mentioned_dets e) d ≡ false → (p : ℕ) → logs past p d ≡ false → logs (e ∷ past) p d ≡ false
-unlogged_stays (Send from to ssn) past d h p none = none
-unlogged_stays _ past d h p none = grind (arith, nat_tests)
+unlogged_stays e past d h p none = grind (arith, nat_tests)
 
 -- before the delivery and the first mention of its determinant it has no holders and no dependents
 pub unheard_before : (past : List Entry) (k : ℕ) (d : Det) (t : ℕ) → MentionsNone past d 0 t → t ≤ k → t ≤ length past → IsUnknownToAll (instant past t) k d

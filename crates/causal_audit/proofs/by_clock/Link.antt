@@ -1,5 +1,5 @@
 -- An entry reaches another in a run exactly if its event precedes the other's in the clock of the run.
-use Rattle.causal_audit.proofs.Common.{ℕ, ◌≡◌, ◌≤◌, inl, inr, List, refl, subst, ◌∙◌, arith, ◌↔◌, cases_lt, Entry, AreLegalEntries, IsEventOf, Delivers, DirectlyPrecedes, in_order, by_message, Reaches, itself, onward, event_below, accepted_forward}
+use Rattle.causal_audit.proofs.Common.{ℕ, ◌≡◌, ◌<◌, ◌≤◌, inl, inr, List, refl, ◌∙◌, arith, ◌↔◌, Entry, AreLegalEntries, IsEventOf, Delivers, DirectlyPrecedes, in_order, by_message, Reaches, itself, onward, event_below, accepted_forward}
 use Rattle.causal_clock.specs.declared.Event.{Event}
 use Rattle.causal_clock.specs.Timeline.{lane_of}
 use Rattle.causal_clock.specs.Precedence as clock
@@ -10,23 +10,13 @@ use Rattle.causal_trace.proofs.Lemmas.DependenceSteps.{delivers_below}
 -- if an event is reached, so are the later events of its lane
 reach_later : (past : List Entry) (i j k p l : ℕ) → Reaches past i j → j ≤ k → IsEventOf past j p l → IsEventOf past k p l → Reaches past i k
 reach_later past i j k p l reach up at to =
-    elim (cases_lt j k) [
-      | inl h ↦ onward reach (in_order p l h at to)
-      | inr h ↦ let same : j ≡ k = omega arith in subst (Reaches past i) same reach
-    ]
+    let step : j < k → Reaches past i k = λ h. onward reach (in_order p l h at to) in
+    grind (arith, step)
 
 module _ (n : ℕ) (past : List Entry) (formed : AreLegalEntries n past) (events : List Event) (stands : IsClockOf past events) where
   clock_direct : (i j : ℕ) → DirectlyPrecedes past i j → clock.DirectlyPrecedes events i j
-  clock_direct i j (in_order p l less a b) = record {
-    earlier = less;
-    within = omega (arith, event_below past j p l b, stands.count);
-    because = inl ((stands.same_lane i j p p l l a b).1 (refl, refl));
-  }
-  clock_direct i j (by_message h) = record {
-    earlier = accepted_forward n past formed j i h;
-    within = omega (arith, delivers_below past j i h, stands.count);
-    because = inr ((stands.receives j i (delivers_below past j i h)).1 h);
-  }
+  clock_direct i j (in_order p l less a b) = grind (arith, event_below past j p l b, stands.count, stands.same_lane i j p p l l a b)
+  clock_direct i j (by_message h) = grind (arith, accepted_forward n past formed j i h, delivers_below past j i h, stands.count, stands.receives j i)
 
   pub in_clock : (i j : ℕ) → Reaches past i j → clock.Precedes events i j
   in_clock i j (itself p l at) = clock.itself (omega (arith, event_below past i p l at, stands.count))

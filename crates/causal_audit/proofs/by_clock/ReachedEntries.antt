@@ -1,5 +1,5 @@
 -- The entries that a delivery reaches, at each instant and in the whole run, and a walk from change to change.
-use Rattle.causal_audit.proofs.Common.{ℕ, ◌≡◌, ◌<◌, ◌≤◌, ◌==◌, inl, List, ◌∷◌, length, sym, arith, inr, Bool, true, Some, refl, ap, subst, ◌∙◌, ◌+◌, get_or, Option, ◌↔◌, ◌||◌, Contains, or_cases, eqb-true, eq-eqb, nat_tests, Entry, instant, det_at, lane, AreLegalEntries, Recording, IsWellFormed, IsEventOf, Reaches, actor, in_order, by_message, itself, onward, Depends, reaches_old, event_below, reaches_newest, ReachesNewest, is_newest, list_has, in_lane, through_message, accepted_forward, Pid, Det, Send, Deliver, entries_of, accepted_then, det_then, instant_length}
+use Rattle.causal_audit.proofs.Common.{ℕ, ◌≡◌, ◌<◌, ◌≤◌, ◌==◌, inl, List, ◌∷◌, length, sym, arith, inr, Bool, true, Some, refl, ap, subst, ◌∙◌, ◌+◌, get_or, Option, ◌↔◌, ◌||◌, Contains, eqb-true, eq-eqb, nat_tests, Entry, instant, det_at, lane, AreLegalEntries, Recording, IsWellFormed, IsEventOf, Reaches, actor, in_order, by_message, itself, onward, Depends, reaches_old, event_below, reaches_newest, ReachesNewest, is_newest, list_has, in_lane, through_message, accepted_forward, Pid, Det, Send, Deliver, entries_of, accepted_then, det_then, instant_length}
 use Rattle.causal_clock.specs.declared.Event.{Event}
 use Rattle.causal_clock.specs.Precedence as clock
 use Rattle.causal_audit.proofs.Between.{reaches_more, known_already, quiet_step}
@@ -67,13 +67,10 @@ module _ (n : ℕ) (past : List Entry) (k : ℕ) (depends : ℕ → Bool) (are :
       same = let x : Some to.0 ≡ Some p = of in cc
 
       forth : (own || (depends to.0 || brings)) ≡ true → Reaches (e ∷ past) k (length past)
-      forth h = elim (or_cases own (depends to.0 || brings) h) [
-        | inl here ↦ subst (λ x. Reaches (e ∷ past) x (length past)) (is_own.0 here) (itself p (lane past p) (inr (refl, of, refl)))
-        | inr more ↦ elim (or_cases (depends to.0) brings more) [
-          | inl known ↦ reached_after e past k p of ((are p).0 (ap depends (sym same) ∙ known))
-          | inr message ↦ onward (reaches_more e past k send (is_brought.0 message)) (by_message (inr (refl, eq-eqb send send refl)))
-        ]
-      ]
+      forth h =
+          let mine : Reaches (e ∷ past) (length past) (length past) = itself p (lane past p) (inr (refl, of, refl)) in
+          let brought : Reaches past k send → Reaches (e ∷ past) k (length past) = λ r. onward (reaches_more e past k send r) (by_message (inr (refl, eq-eqb send send refl))) in
+          grind (arith, nat_tests, is_own.0, mine, brought, reached_after e past k p of, are p, is_brought.0, same)
 
       how : ReachesNewest e past k p → (own || (depends to.0 || brings)) ≡ true
       how (is_newest is) = grind (arith, nat_tests, is_own.1 (sym is))

@@ -2,7 +2,7 @@
 use Rattle.std.proofs.lemmas.Grind.{common_steps}
 use Rattle.std.proofs.lemmas.List.Sums.{count_by-le-length, count_by_more_no, count_by_more_yes, sum_by-append, sum_by-cons}
 use Rattle.std.specs.Prelude.{count_by}
-use Rattle.causal_audit.proofs.Common.{ℕ, ◌≡◌, ◌+◌, ◌<◌, ◌≤◌, ◌==◌, cond, cond-true, List, [], ◌∷◌, ◌++◌, length, get_or, set, take, replicate, refl, ap, arith, eq-eqb, eqb_tells, length-append, length-set, get_or-set_same, get_or-set_other}
+use Rattle.causal_audit.proofs.Common.{ℕ, ◌≡◌, ◌+◌, ◌<◌, ◌≤◌, ◌==◌, cond, cond-true, List, [], ◌∷◌, ◌++◌, length, get_or, set, take, ap, arith, eq-eqb, eqb_tells, length-append, length-set, get_or-set_same, get_or-set_other}
 use Rattle.causal_audit.specs.Inside.Index.Lists.{list_at, with_added}
 use Rattle.causal_audit.specs.Inside.Index.Packed.{AreOccurrences, HasSpareCapacity, HaveCapacityFor, ListsWithCapacities}
 
@@ -12,10 +12,7 @@ counted_next v m rest = sum_by-cons (λ n. cond (n == m) 1 0) v rest
 
 -- there is spare capacity for the first of the numbers
 pub spare_next : (s : ListsWithCapacities) (v : ℕ) (rest : List ℕ) → HaveCapacityFor s (v ∷ rest) → v < length s.lists → HasSpareCapacity s v
-spare_next s v rest fits there = record {
-  there = there;
-  spare = omega (arith, fits v there, counted_next v v rest, cond-true {A = ℕ} (v == v) 1 0 (eq-eqb v v refl));
-}
+spare_next s v rest fits there = grind (arith, fits v there, counted_next v v rest, cond-true, eq-eqb)
 
 -- and for the others once its position is added
 pub spare_added : (s new : ListsWithCapacities) (v x : ℕ) (rest : List ℕ) → HaveCapacityFor s (v ∷ rest) → v < length s.lists → new.lists ≡ with_added s.lists v x → new.capacities ≡ s.capacities → HaveCapacityFor new rest
@@ -30,10 +27,6 @@ spare_front s front back fits m low = omega (arith, fits m low, sum_by-append (�
 pub spare_all : (s : ListsWithCapacities) (counts numbers : List ℕ) → ((m : ℕ) → list_at s.lists m ≡ []) → s.capacities ≡ counts → length s.lists ≡ length counts → AreOccurrences counts numbers → HaveCapacityFor s numbers
 spare_all s counts numbers empty same many each m low =
     omega (arith, ap length (empty m), ap (λ xs. get_or xs m 0) same, each m (omega (arith, low, many)))
-
--- no number occurs in no numbers
-pub none_counted : (count : ℕ) → AreOccurrences (replicate count 0) []
-none_counted count m low = grind (arith, common_steps)
 
 module _ (counts numbers : List ℕ) (i : ℕ) (inside : i < length numbers) (each : AreOccurrences counts (take i numbers)) where
   abbrev v : ℕ

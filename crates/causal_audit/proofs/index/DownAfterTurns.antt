@@ -1,6 +1,6 @@
 -- The crashes and restarts, and the down processes after each.
 use Rattle.std.proofs.lemmas.Grind.{common_steps}
-use Rattle.causal_audit.proofs.Common.{ℕ, ◌≡◌, ◌+◌, ◌<◌, ◌≤◌, true, false, List, [], length, get_or, Some, refl, sym, subst, ◌∙◌, arith, nat_cmp, FinSet, empty, IsPartitionPoint, false≢true, false_from_ne_true, get_or_default, Entry, Restart, instant, entry_at, is_down}
+use Rattle.causal_audit.proofs.Common.{ℕ, ◌≡◌, ◌+◌, ◌-◌, ◌<◌, ◌≤◌, false, List, length, get_or, Some, sym, subst, ◌∙◌, arith, nat_cmp, FinSet, contains, empty, IsPartitionPoint, false_from_ne_true, get_or_default, Entry, instant, entry_at, is_down}
 use Rattle.causal_audit.specs.declared.index.transitions.Transitions.{Transitions}
 use Rattle.causal_audit.specs.declared.index.transitions.TransitionCursor.{TransitionCursor}
 use Rattle.causal_audit.specs.Inside.Index.Lists.{AreTransitions}
@@ -12,10 +12,6 @@ use Rattle.causal_audit.specs.Inside.SafetyScan.Persistence.{restarts_one, Resta
 use Rattle.causal_audit.proofs.by_clock.Begun.{down_stays}
 use Rattle.causal_audit.proofs.Steps.{nobody_down}
 
--- before the first entry there are no crashes and restarts
-pub turns_none : AreTransitions [] [] []
-turns_none = grind arith
-
 -- ---- the down processes at an instant
 
 module _ (past : List Entry) (list : List ℕ) (downs : List (FinSet nat_cmp)) (are : AreTransitions past list downs) (t passed : ℕ) (within : t ≤ length past) (inside : passed ≤ length list)
@@ -26,17 +22,17 @@ module _ (past : List Entry) (list : List ℕ) (downs : List (FinSet nat_cmp)) (
 
   -- before the first of them no process is down
   pub none_turned : passed ≡ 0 → HasExactly empty (λ p. is_down (instant past t) p)
-  none_turned is p = grind (arith, nobody_down past p, down_stays, no_turn)
+  none_turned is p = nobody_down past p ∙ down_stays past 0 t (omega arith) within (no_turn 0 (λ i low. absurd (omega (arith, is, low)))) p
 
   -- otherwise the down processes are those after the last one
-  pub last_turned : (j : ℕ) → passed ≡ j + 1 → (s : FinSet nat_cmp) → s ≡ get_or downs j s → HasExactly s (λ p. is_down (instant past t) p)
-  last_turned j is s value p = grind (arith, down_stays, no_turn)
+  pub last_turned : 0 < passed → (s : FinSet nat_cmp) → s ≡ get_or downs (passed - 1) s → HasExactly s (λ p. is_down (instant past t) p)
+  last_turned some s value p =
+      let j = passed - 1 in
+      let before : get_or list j 0 < t = point.0 j 0 (omega arith) (omega (arith, some)) in
+      subst (λ x. contains x p ≡ is_down (instant past (get_or list j 0 + 1)) p) (sym value) (are.shown j s (omega (arith, some, inside)) p)
+      ∙ down_stays past (get_or list j 0 + 1) t (omega (arith, before)) within (no_turn (get_or list j 0 + 1) (λ i low. omega (arith, are.ascends.ascending i j 0 (omega (arith, low)) (omega (arith, some, inside))))) p
 
 -- ---- a scan to the next restart of one of these processes
-
-restarts_turn : (members : FinSet nat_cmp) (e : Entry) → restarts_one members e ≡ true → is_transition e ≡ true
-restarts_turn members (Restart who listed) h = refl
-restarts_turn members _ h = absurd (false≢true h)
 
 -- the passed transitions from `from` on restart none of these processes
 abbrev pub PassNone : List Entry → List ℕ → FinSet nat_cmp → ℕ → ℕ → Type 0
@@ -48,8 +44,9 @@ module _ (past : List Entry) (list : List ℕ) (downs : List (FinSet nat_cmp)) (
   pub none_restarts : (u : ℕ) → ((i v : ℕ) → passed ≤ i → i < length list → u ≤ get_or list i v) → RestartsNone past members from u
   none_restarts u rest v e late early at =
       false_from_ne_true (restarts_one members e) (λ is.
-      false≢true (sym (are.turned v e at (λ listed.
-      grind (arith, get_or_default list listed.0 0 v listed.1, none listed.0 e, rest listed.0 v, listed.2))) ∙ restarts_turn members e is))
+      let quiet : is_transition e ≡ false = are.turned v e at (λ listed.
+      grind (arith, get_or_default list listed.0 0 v listed.1, none listed.0 e, rest listed.0 v, listed.2)) in
+      grind (arith, quiet, is))
 
   module _ (x : ℕ) (there : passed < length list) (is : x ≡ get_or list passed x) where
     -- none that is left is before the next one

@@ -1,5 +1,5 @@
 -- How many processes are down, and the restarts by the number that are down after them.
-use Rattle.causal_audit.proofs.Common.{ℕ, zero, suc, ◌≡◌, ◌+◌, ◌<◌, ◌≤◌, inl, inr, Bool, true, false, cond, List, [], ◌∷◌, length, Some, refl, ap, subst, ◌∙◌, arith, not, ◌==◌, ◌&&◌, ◌||◌, Contains, All, All-weaker, ne_eqb, or_right, eqb_tells, count_below, count_below-within, Entry, Crash, Restart, Pid, Det, instant, entry_at, is_down, AreLegalEntries, instants_stay, one_more_instant, IsNonDecreasing}
+use Rattle.causal_audit.proofs.Common.{ℕ, zero, suc, ◌≡◌, ◌+◌, ◌<◌, ◌≤◌, inl, inr, Bool, true, false, List, [], ◌∷◌, length, Some, refl, ap, subst, ◌∙◌, arith, not, ◌==◌, ◌&&◌, Contains, All, ne_eqb, or_right, eqb_tells, count_below, count_below-within, Entry, Crash, Restart, Pid, Det, instant, entry_at, is_down, AreLegalEntries, instants_stay, one_more_instant}
 use Rattle.causal_name.specs.Sets.{union_test}
 use Rattle.causal_holders.proofs.Lemmas.MemberCounts.{count_below-same, at_most_one}
 use Rattle.std.proofs.lemmas.Bool.Decides.{nat_tests}
@@ -17,18 +17,12 @@ use Rattle.causal_audit.proofs.Steps.{entry_cases, entry_within}
 pub one_fewer : (n : ℕ) (test : ℕ → Bool) (w : ℕ) → count_below n test ≤ count_below n (λ p. not (w == p) && test p) + 1
 one_fewer zero test w = omega arith
 one_fewer (suc n) test w =
-    elim (eqb_tells w n) [
-      | inl same ↦ grind (arith, count_below-same n test (λ p. not (w == p) && test p), ne_eqb, at_most_one (test n))
-      | inr apart ↦ grind (arith, apart.0, one_fewer n test w)
-    ]
-
-both_counted : (a b : Bool) → (a ≡ true → b ≡ false) → cond (a || b) 1 0 ≡ cond a 1 0 + cond b 1 0
-both_counted a b apart = grind (arith, nat_tests)
+    grind (arith, eqb_tells w n, count_below-same n test (λ p. not (w == p) && test p), ne_eqb, at_most_one (test n), one_fewer n test w)
 
 -- the union of disjoint sets has as many members as both together
 pub disjoint_counted : (n : ℕ) (a b : ℕ → Bool) → ((p : ℕ) → a p ≡ true → b p ≡ false) → count_below n (union_test a b) ≡ count_below n a + count_below n b
 disjoint_counted zero a b apart = refl
-disjoint_counted (suc n) a b apart = omega (arith, disjoint_counted n a b apart, both_counted (a n) (b n) (apart n))
+disjoint_counted (suc n) a b apart = grind (arith, nat_tests, disjoint_counted n a b apart, apart n)
 
 -- ---- the lists, with one more entry
 
@@ -39,10 +33,9 @@ module _ (e : Entry) (past : List Entry) (lists : List (List ℕ)) (are : AreFal
 
   -- an entry that is no restart
   pub falls_same : ((who : Pid) (listed : List Det) → e ≡ Restart who listed → ⊥) → AreFalls (e ∷ past) lists
-  falls_same none = record {
-    ascend = ascend_weaker _ _ lists (omega arith) are.ascend;
-    all = λ n v who listed legal at absent. grind (arith, entry_cases, old_listed n v who listed legal, none);
-  }
+  falls_same none =
+      let ascend : All (Ascends (length (e ∷ past))) lists = ascend_weaker _ _ lists (omega arith) are.ascend in
+      grind (arith, ascend, entry_cases, old_listed)
 
   -- an entry after which so many are down
   pub falls_more : (c : ℕ) → ((n : ℕ) → AreLegalEntries n (e ∷ past) → count_below n (is_down (e ∷ past)) ≡ c) → c < length lists → AreFalls (e ∷ past) (with_added lists c (length past))
@@ -59,10 +52,6 @@ module _ (e : Entry) (past : List Entry) (lists : List (List ℕ)) (are : AreFal
 -- empty lists are correct for no entries
 pub falls_of_none : (lists : List (List ℕ)) → All (λ list. list ≡ []) lists → AreFalls [] lists
 falls_of_none lists all = grind (arith, empty_ascend)
-
--- the lists ascend
-pub falls_ascend : (past : List Entry) (lists : List (List ℕ)) → AreFalls past lists → All IsNonDecreasing lists
-falls_ascend past lists are = All-weaker (Ascends (length past)) IsNonDecreasing (λ list a. a.ascending) lists are.ascend
 
 -- the instant after an entry
 pub entry_next : (past : List Entry) (v : ℕ) (e : Entry) → entry_at past v ≡ Some e → instant past (v + 1) ≡ e ∷ instant past v

@@ -1,16 +1,14 @@
 -- The lists of positions of an index, with one more position and one more entry.
 use Rattle.std.proofs.lemmas.Grind.{common_steps}
-use Rattle.causal_audit.proofs.Common.{ℕ, ◌≡◌, ◌≢◌, ◌+◌, ◌<◌, ◌≤◌, inl, inr, true, false, List, [], ◌∷◌, ◌++◌, length, Option, Some, None, refl, sym, ap, subst, ◌∙◌, arith, Bool, ◌⊎◌, Contains, ◌==◌, ◌&&◌, option_map_or, All, get_or-eq_default, cases_lt, false≢true, cond-true, cond-false, false_from_ne_true, eqb-true, eq-eqb, ne_eqb, or_cases, or_left, or_right, get_or-set_same, get_or-set_other, get_or_past, All-push, All-set, All-get_or, All-weaker, Contains-append_left, Contains-push, Contains-push_cases, IsNonDecreasingBy-push, Entry, entry_at, list_has, nat_cmp, FinSet, contains, empty, remove, contains-empty, IsNonDecreasing, Crash, Restart, Det, same_det}
+use Rattle.causal_audit.proofs.Common.{ℕ, nat_tests, ◌≡◌, ◌≢◌, ◌+◌, ◌<◌, ◌≤◌, inl, inr, true, false, List, [], ◌∷◌, ◌++◌, length, Option, Some, None, refl, sym, subst, ◌∙◌, arith, Bool, ◌⊎◌, Contains, ◌==◌, option_map_or, All, get_or-eq_default, cases_lt, false≢true, cond-true, cond-false, false_from_ne_true, eqb-true, eq-eqb, ne_eqb, or_cases, or_left, or_right, get_or-set_same, get_or-set_other, get_or_past, All-push, All-set, All-get_or, All-weaker, Contains-append_left, Contains-push, Contains-push_cases, IsNonDecreasingBy-push, Entry, list_has, nat_cmp, FinSet, contains, empty, remove, contains-empty, IsNonDecreasing, Crash, Det, same_det}
 use Rattle.causal_audit.specs.Inside.Index.Lists.{Ascends, list_at, with_added, AreMentions, AreMentionsWith, mentions_of, AreTransitionsOf, IsFirstCrash, restarts_or_crashes}
 use Rattle.causal_audit.specs.Inside.PositionLists.{HasNoneUntil}
 use Rattle.causal_audit.specs.Inside.SafetyScan.Persistence.{restarts_one, CrashesNone, RestartsNone}
-use Rattle.causal_audit.specs.Covered.{IsCrashOf}
 use Rattle.causal_audit.proofs.group.GroupReach.{left_out}
 use Rattle.causal_audit.proofs.Steps.{entry_cases}
 use Rattle.causal_audit.proofs.index.Receivers.{newest_entry, older_entry}
 use Rattle.causal_trace.specs.Past.{mentioned_dets}
-use Rattle.std.specs.Prelude.{nat_lt}
-use Rattle.std.proofs.lemmas.Bool.{le-ltb, lt-ltb}
+use Rattle.std.proofs.lemmas.Bool.{lt-ltb}
 use Rattle.std.proofs.lemmas.List.{length-set}
 use Rattle.causal_trace.specs.Numbers.{number_of}
 use Rattle.causal_trace.proofs.Lemmas.DeliveryNumbers.{number_below, found_below, numbers_apart}
@@ -77,16 +75,8 @@ module _ (restarts : Bool) (e : Entry) (past : List Entry) (lists : List (List �
   pub turns_more : (q : ℕ) → ((p : ℕ) → restarts_or_crashes restarts p e ≡ (q == p)) → q < length lists → AreTransitionsOf restarts (e ∷ past) (with_added lists q (length past))
   turns_more q of there = record {
     ascend = added_ascend lists q (length past) there _ _ (omega arith) (omega arith) are.ascend;
-    only = λ p v listed. elim (added_cases lists q (length past) there p v listed) [
-      | inl old ↦ let was = are.only p v old in (was.0, older_entry e past v was.0 was.1, was.2)
-      | inr new ↦ (e, newest_entry e past v (sym new.1), of p ∙ eq-eqb q p (sym new.0))
-    ];
-    all = λ p v x at absent. elim (entry_cases e past v x at) [
-      | inl old ↦ are.all p v x old (λ list_has. absent (added_keeps lists q (length past) there p v list_has))
-      | inr new ↦
-          let here : Contains (list_at (with_added lists q (length past)) q) v = subst (Contains (list_at (with_added lists q (length past)) q)) (sym new.0) (added_has lists q (length past) there) in
-          subst (λ y. restarts_or_crashes restarts p y ≡ false) new.1 (of p ∙ ne_eqb q p (λ same. absent (subst (λ m. Contains (list_at (with_added lists q (length past)) m) v) same here)))
-    ];
+    only = λ p v listed. grind (arith, added_cases lists q (length past) there p v listed, are.only p v, older_entry, newest_entry, of p, eq-eqb q p);
+    all = λ p v x at absent. grind (arith, entry_cases e past v x at, are.all p v x, added_keeps lists q (length past) there p v, added_has lists q (length past) there, of p, ne_eqb q p);
   }
 
 -- ---- before the first entry
@@ -96,21 +86,17 @@ pub turns_of_none : (restarts : Bool) (lists : List (List ℕ)) → All (λ list
 turns_of_none restarts lists all = grind (arith, common_steps, empty_ascend, nothing_in)
 
 -- the lists ascend
-pub turns_ascend : (restarts : Bool) (past : List Entry) (lists : List (List ℕ)) → AreTransitionsOf restarts past lists → All IsNonDecreasing lists
-turns_ascend restarts past lists are = All-weaker (Ascends (length past)) IsNonDecreasing (λ list a. a.ascending) lists are.ascend
+pub lists_ascend : (bound : ℕ) (lists : List (List ℕ)) → All (Ascends bound) lists → All IsNonDecreasing lists
+lists_ascend bound lists ascend = All-weaker (Ascends bound) IsNonDecreasing (λ list a. a.ascending) lists ascend
 
 -- ---- the first crash
-
-crash_from : (past : List Entry) (p v : ℕ) (e : Entry) → entry_at past v ≡ Some e → restarts_or_crashes false p e ≡ true → IsCrashOf past p v
-crash_from past p v (Crash who) at is = (who, at, eqb-true who.0 p is)
-crash_from past p v _ at is = absurd (false≢true is)
 
 -- the first position after k in the list of a process is its first crash after k
 pub first_crash_is : (past : List Entry) (lists : List (List ℕ)) (p k end c : ℕ) → AreTransitionsOf false past lists → k + 1 ≤ c → c ≤ end → HasNoneUntil (list_at lists p) (k + 1) c → (c < end → Contains (list_at lists p) c) → IsFirstCrash past p k end c
 first_crash_is past lists p k end c are after within none found = record {
   within = within;
   after = omega (arith, after);
-  found = λ early. let at = are.only p c (found early) in crash_from past p c at.0 at.1 at.2;
+  found = λ early. grind (arith, are.only p c (found early), eqb-true);
   none = λ v above below of. false≢true (sym (are.all p v (Crash of.0) of.1 (none v (omega (arith, above)) below)) ∙ eq-eqb of.0.0 p of.2);
 }
 
@@ -131,8 +117,7 @@ rest_less lists members rest from next nearer p low here none q member out =
 
 -- an entry that restarts one of these processes restarts exactly one of them
 restarted_one : (members : FinSet nat_cmp) (e : Entry) → restarts_one members e ≡ true → (p : ℕ) × (contains members p ≡ true) × (restarts_or_crashes true p e ≡ true)
-restarted_one members (Restart who listed) h = (who.0, h, eq-eqb who.0 who.0 refl)
-restarted_one members _ h = absurd (false≢true h)
+restarted_one members e h = grind (arith, eq-eqb)
 
 -- if no process remains, none of them restarts before `next`
 pub none_rest : (past : List Entry) (lists : List (List ℕ)) (members : FinSet nat_cmp) (from next : ℕ) → AreTransitionsOf true past lists → RestNone lists members empty from next → RestartsNone past members from next
@@ -151,15 +136,11 @@ none_crashes past lists members from next are none v who late early at =
 
 -- ---- numbers
 
--- a number at or above a bound belongs to no delivery below it
-pub too_late : (k m : ℕ) (b : Bool) → m ≤ k → (nat_lt k m && b) ≡ false
-too_late k m b later = ap (λ c. c && b) (le-ltb k m later)
-
 -- the newest among the first m deliveries is the newest up to itself
 pub number_of_found : (m : ℕ) (dets : List Det) (d : Det) (j : ℕ) → number_of m dets d ≡ Some j → number_of (j + 1) dets d ≡ Some j
 number_of_found m [] d j is = absurd (let x : None ≡ Some j = is in cc)
 number_of_found m (x ∷ older) d j is =
-    grind (arith, cond-true, lt-ltb, cond-false, found_below, number_below m older d, too_late, number_of_found m older d j)
+    grind (arith, cond-true, lt-ltb, cond-false, found_below, number_below m older d, nat_tests, number_of_found m older d j)
 
 -- ---- one more position in the list of a determinant
 
@@ -179,23 +160,10 @@ mentions_more past dets numbers lists det m at there are =
     record {
       ascend = added_ascend lists m (length past) there _ _ (omega arith) (omega arith) are.ascend;
       mentioned = λ d v e is unlisted. are.mentioned d v e is (λ listed. unlisted (kept d v listed));
-      noted = λ d listed. elim (or_cases (list_has dets d) (same_det d det) (sym (has_more dets det d) ∙ listed)) [
-        | inl before ↦ kept d (length past) (are.noted d before)
-        | inr now ↦ grind (arith, length-set, same_is d det now, added_has lists m (length past) there)
-      ];
-      only = λ d v listed. elim (cases_of (number_of (length lists) numbers d) lists m (length past) v there (rw length-set at listed)) [
-        | inl old ↦ elim (are.only d v old) [
-          | inl before ↦ inl before
-          | inr now ↦ inr (now.0, has_more dets det d ∙ or_left (list_has dets d) (same_det d det) now.1)
-        ]
-        | inr new ↦ inr (sym new.1, has_more dets det d ∙ or_right (list_has dets d) (same_det d det) (numbers_apart (length lists) numbers d det m new.0 at))
-      ];
-      owned = λ i v d listed own. rw length-set (elim (added_cases lists m (length past) there i v listed) [
-        | inl old ↦ are.owned i v d old own
-        | inr new ↦
-            let one : same_det d det ≡ true = numbers_apart (m + 1) numbers d det m (subst (λ k. number_of (k + 1) numbers d ≡ Some k) new.0 own) (number_of_found (length lists) numbers det m at) in
-            grind (arith, same_is d det one)
-      ]);
+      noted = λ d listed. grind (arith, or_cases (list_has dets d) (same_det d det), has_more dets det d, kept d (length past), are.noted d, length-set, same_is d det, added_has lists m (length past) there);
+      only = λ d v listed. grind (arith, cases_of (number_of (length lists) numbers d) lists m (length past) v there (rw length-set at listed), are.only d v, has_more dets det d, or_left, or_right, numbers_apart (length lists) numbers d det m);
+      owned = λ i v d listed own.
+          grind (arith, length-set, added_cases lists m (length past) there i v listed, are.owned i v d, numbers_apart (m + 1) numbers d det m, number_of_found (length lists) numbers det m at, same_is d det);
     }
   where
     kept : (d : Det) (v : ℕ) → Contains (mentions_of numbers lists d) v → Contains (mentions_of numbers (with_added lists m (length past)) d) v
@@ -205,13 +173,9 @@ mentions_more past dets numbers lists det m at there are =
 
 -- before the determinants of the next entry are added, the lists are correct for the run
 pub mentions_begun : (past : List Entry) (numbers : List Det) (lists : List (List ℕ)) → AreMentions past numbers lists → AreMentionsWith past [] numbers lists
-mentions_begun past numbers lists are = record {
-  ascend = ascend_weaker _ _ lists (omega arith) are.ascend;
-  mentioned = are.mentioned;
-  noted = λ d listed. absurd (false≢true listed);
-  only = λ d v listed. inl (are.only d v listed);
-  owned = are.owned;
-}
+mentions_begun past numbers lists are =
+    let ascend : All (Ascends (length past + 1)) lists = ascend_weaker _ _ lists (omega arith) are.ascend in
+    grind (arith, ascend, false≢true)
 
 -- after all of them are added, the lists are correct for the run with this entry
 pub mentions_done : (e : Entry) (past : List Entry) (numbers : List Det) (lists : List (List ℕ)) → AreMentionsWith past (mentioned_dets e) numbers lists → AreMentions (e ∷ past) numbers lists
@@ -231,8 +195,4 @@ mentions_ascend past numbers lists are d = list_of (number_of (length lists) num
   where
     list_of : (o : Option ℕ) → IsNonDecreasing (option_map_or (list_at lists) o [])
     list_of None = λ i j x low high. absurd (omega (arith, high))
-    list_of (Some m) =
-        elim (cases_lt m (length lists)) [
-          | inl inside ↦ (are.ascend m [] inside).ascending
-          | inr beyond ↦ subst IsNonDecreasing (sym (get_or_past lists m [] beyond)) (λ i j x low high. absurd (omega (arith, high)))
-        ]
+    list_of (Some m) = grind (arith, cases_lt m (length lists), are.ascend m [], get_or_past lists m [])

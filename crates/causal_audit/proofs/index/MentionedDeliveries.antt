@@ -1,5 +1,5 @@
 -- Each determinant that an entry mentions is that of a delivery, so it has a number.
-use Rattle.causal_audit.proofs.Common.{ℕ, ◌≡◌, ◌+◌, ◌≤◌, inl, inr, true, List, [], ◌∷◌, length, reverse, take, Option, Some, None, refl, sym, ap, subst, ◌∙◌, arith, not, ◌||◌, All, All-cons, All-nil, All-permutation, All-weaker, option_map_or, is_some, cases_lt, cond-true, cond-false, or_right, take_all, reverse-reverse, Det, Entry, Deliver, Stable, Restart, Forget, Recording, AreLegalEntries, accepted_then, deliveries_in, det_of, entries_of, first_fault, instant, instants_stay, one_more_instant, row_fails}
+use Rattle.causal_audit.proofs.Common.{ℕ, ◌≡◌, ◌≤◌, true, List, [], ◌∷◌, length, reverse, take, None, refl, sym, ap, subst, ◌∙◌, arith, not, ◌||◌, All, All-cons, All-nil, All-permutation, All-weaker, is_some, cases_lt, cond-true, cond-false, or_right, take_all, reverse-reverse, Det, Entry, Deliver, Stable, Restart, Forget, Recording, AreLegalEntries, accepted_then, deliveries_in, det_of, entries_of, first_fault, instant, instants_stay, one_more_instant, row_fails}
 use Rattle.std.proofs.lemmas.List.Sums.{AllPass-from_list_all}
 use Rattle.std.proofs.lemmas.List.Sorted.{IsPermutation-reverse}
 use Rattle.causal_trace.specs.Past.{is_delivered, is_det, mentioned_dets}
@@ -43,23 +43,11 @@ all_delivered n (e ∷ past) legal =
 
 -- ---- so they have numbers
 
-number_kept : (many : ℕ) (x : Det) (older : List Det) (d : Det) → is_some (number_of many older d) ≡ true → is_some (number_of many (x ∷ older) d) ≡ true
-number_kept many x older d h = grind (arith, cond-true, cond-false)
-
-one_more_kept : (many : ℕ) (o : Option Det) (older : List Det) (d : Det) → is_some (number_of many older d) ≡ true → is_some (number_of many (option_map_or (λ x. x ∷ older) o older) d) ≡ true
-one_more_kept many None older d h = h
-one_more_kept many (Some x) older d h = number_kept many x older d h
-
 -- a delivery before an instant has a number among as many deliveries as there are before it, or more
 number_then : (past : List Entry) (end many : ℕ) (d : Det) → end ≤ length past → deliveries_in (instant past end) ≤ many → is_delivered (instant past end) d ≡ true → is_some (number_of many (delivered_dets past) d) ≡ true
 number_then [] end many d within few h = grind arith
 number_then (e ∷ past) end many d within few h =
-    elim (cases_lt (length past) end) [
-      | inl late ↦
-          let is : end ≡ length past + 1 = omega (arith, late, within) in
-          grind (arith, is, one_more_instant e past, delivered_numbered many (e ∷ past) d, listed_once (e ∷ past))
-      | inr early ↦ grind (arith, instants_stay e past end early, one_more_kept, number_then past end many d early)
-    ]
+    grind (arith, cases_lt (length past) end, one_more_instant e past, delivered_numbered many (e ∷ past) d, listed_once (e ∷ past), instants_stay e past end, cond-true, cond-false, number_then past end many d)
 
 -- the determinants that entries before an instant mention have numbers among these deliveries
 pub mentioned_numbered : (r : Recording) (es : List Entry) → es ≡ entries_of r → AreLegalEntries r.processes r.past → (end many : ℕ) → end ≤ length r.past → deliveries_in (instant r.past end) ≤ many

@@ -4,7 +4,6 @@ use Rattle.causal_audit.proofs.Common.{cases_lt, get_or_past, ℕ, ◌≡◌, �
 use Rattle.std.proofs.lemmas.List.{drop-set-add, drop-set-lt, ext_get_or, length-drop, length-take-le, take-set-le}
 use Rattle.std.proofs.lemmas.Bool.Decides.{eqb_tells}
 use Rattle.std.proofs.Math.Seq.{take-suc-set}
-use Rattle.std.specs.List.{slice_range}
 use Rattle.causal_audit.specs.declared.index.packed_lists.ListSpan.{ListSpan}
 use Rattle.causal_audit.specs.Inside.Index.Lists.{list_at, with_added}
 use Rattle.causal_audit.specs.Inside.Index.Packed.{ArePacked, HasSpareCapacity, IsSpan, list_capacities, limit_before, list_in}
@@ -13,14 +12,11 @@ use Rattle.causal_audit.specs.Inside.Index.Packed.{ArePacked, HasSpareCapacity, 
 abbrev limit_in : List ListSpan → ℕ → ℕ → ℕ
 limit_in spans number size = (get_or spans (number + 1) (record { begin = size; end = size })).begin
 
-limit_first : (size : ℕ) (s : ListSpan) (rest : List ListSpan) → limit_before size rest ≡ limit_in (s ∷ rest) 0 size
-limit_first size s [] = refl
-limit_first size s (next ∷ rest) = refl
-
 -- a list's capacity is from its start to that of the next list
 capacity_at : (size : ℕ) (spans : List ListSpan) (m : ℕ) (d : ListSpan) → m < length spans → get_or (list_capacities size spans) m 0 ≡ limit_in spans m size - (get_or spans m d).begin
 capacity_at size [] m d there = absurd (omega (arith, there))
-capacity_at size (s ∷ rest) zero d there = ap (λ n. n - s.begin) (limit_first size s rest)
+capacity_at size (s ∷ []) zero d there = refl
+capacity_at size (s ∷ next ∷ rest) zero d there = refl
 capacity_at size (s ∷ rest) (suc m) d there = grind (arith, capacity_at size rest m d (omega (arith, there)))
 
 -- one more list with the last capacity
@@ -69,10 +65,6 @@ packed_push b limit spans new is more packed = grind (arith, common_steps, All-p
 outside : (ps : List ℕ) (e v : ℕ) (s : ListSpan) → (s.end ≤ e) × (s.begin ≤ s.end) → list_in (set ps e v) s ≡ list_in ps s
 outside ps e v s is = grind (arith, drop-set-add s.begin ps (e - s.begin) v, take-set-le)
 
--- a write at its end appends to it
-at_end : (ps : List ℕ) (v : ℕ) (s : ListSpan) → s.begin ≤ s.end → s.end < length ps → slice_range (set ps s.end v) s.begin (s.end + 1) ≡ list_in ps s ++ v ∷ []
-at_end ps v s order below = grind (arith, drop-set-add s.begin ps (s.end - s.begin) v, take-suc-set, length-drop s.begin ps)
-
 module _ (ps : List ℕ) (spans : List ListSpan) (m v : ℕ) (s new : ListSpan) (packed : ArePacked (length ps) spans) (there : m < length spans) (is : s ≡ get_or spans m s) (room : s.end + 1 ≤ limit_in spans m (length ps))
     (begin : new.begin ≡ s.begin) (end : new.end ≡ s.end + 1) where
   here : (d : ListSpan) → get_or spans m d ≡ s
@@ -85,11 +77,7 @@ module _ (ps : List ℕ) (spans : List ListSpan) (m v : ℕ) (s new : ListSpan) 
   next : m + 1 < length spans → limit_in spans m (length ps) ≡ (get_or spans (m + 1) s).begin
   next inside = ap (λ (x : ListSpan). x.begin) (get_or_default spans (m + 1) nothing s inside)
 
-  -- it is within the vector
-  limit_within : limit_in spans m (length ps) ≤ length ps
-  limit_within = grind (arith, common_steps, next)
-
-  -- and at or before the start of each later list
+  -- it is at or before the start of each later list
   limit_low : (j : ℕ) → m < j → j < length spans → limit_in spans m (length ps) ≤ (get_or spans j s).begin
   limit_low j after inside = grind (arith, eqb_tells j (m + 1), next (omega (arith, after, inside)))
 
@@ -98,7 +86,7 @@ module _ (ps : List ℕ) (spans : List ListSpan) (m v : ℕ) (s new : ListSpan) 
   other j apart inside = grind (arith, here s, outside, limit_low, drop-set-lt)
 
   longer : list_in (set ps s.end v) new ≡ list_at (map (list_in ps) spans) m ++ v ∷ []
-  longer = grind (arith, at_end, limit_within, here s, get_or-map (list_in ps) spans m s [] there)
+  longer = grind (arith, drop-set-add s.begin ps (s.end - s.begin) v, take-suc-set, length-drop s.begin ps, limit_inside (length ps) spans m s packed, here s, get_or-map (list_in ps) spans m s [] there)
 
   -- the lists are those with the position added
   packed_more : map (list_in (set ps s.end v)) (set spans m new) ≡ with_added (map (list_in ps) spans) m v
@@ -117,7 +105,7 @@ module _ (ps : List ℕ) (spans : List ListSpan) (m v : ℕ) (s new : ListSpan) 
   -- the lists still follow one another
   packed_still : ArePacked (length (set ps s.end v)) (set spans m new)
   packed_still =
-      grind (arith, common_steps, length-set, All-set, limit_within, All-weaker, kept, eqb_tells, get_or-set_same, limit_low, get_or-set_other)
+      grind (arith, common_steps, length-set, All-set, limit_inside (length ps) spans m s packed, All-weaker, kept, eqb_tells, get_or-set_same, limit_low, get_or-set_other)
 
 -- after a position is added to a list with spare capacity: its span ended within the positions, the spans still follow
 -- one another, the lists are those with the position added, and their capacities are unchanged

@@ -1,5 +1,5 @@
 -- When the effect of a delivery leaves its receiver, and what this implies for its orphans.
-use Rattle.causal_audit.proofs.Common.{ℕ, ◌≡◌, ◌<◌, ◌≤◌, inl, inr, true, false, List, [], ◌∷◌, length, Some, None, refl, sym, ap, subst, ◌∙◌, arith, get_or, delivers_sent, message_sent, option_and_then, ◌+◌, ◌⊎◌, ◌==◌, slice_set, option_map, option_map_or, cases_lt, false≢true, eqb-true, eq-eqb, or_from, cond-true, cond-false, false_from_ne_true, or_right, Pid, Det, Entry, Send, Deliver, Crash, Restart, instant, is_down, is_send_to, logs, lane, det_at, det_of, det_from, entry_at, AreLegalEntries, Depends, actor, IsEventOf, Delivers, DirectlyPrecedes, in_order, by_message, Reaches, itself, onward, is_delivery_of, accepted_forward, event_below, event_lane, instant_length, det_then, HasOrphan, length-set, get_or-set_other}
+use Rattle.causal_audit.proofs.Common.{ℕ, ◌≡◌, ◌<◌, ◌≤◌, inl, inr, true, false, List, [], ◌∷◌, length, Some, None, sym, ap, subst, ◌∙◌, arith, get_or, delivers_sent, message_sent, option_and_then, ◌+◌, ◌⊎◌, ◌==◌, slice_set, option_map, option_map_or, cases_lt, false≢true, eqb-true, eq-eqb, or_from, cond-true, cond-false, false_from_ne_true, nat_tests, Pid, Det, Entry, Send, Deliver, instant, is_down, is_send_to, logs, lane, det_at, det_of, det_from, entry_at, AreLegalEntries, Depends, IsEventOf, Delivers, DirectlyPrecedes, in_order, by_message, Reaches, itself, onward, is_delivery_of, accepted_forward, event_below, event_lane, instant_length, det_then, HasOrphan, length-set, get_or-set_other}
 use Rattle.causal_audit.specs.Laws.{down_or_holding}
 use Rattle.causal_audit.specs.Covered.{LocalHasNoOtherDependents, CoveredHasNoOrphan, StaysLocalUntil, CrashedHasNoDependents}
 use Rattle.causal_trace.proofs.Lemmas.DependenceSteps.{event_once, delivers_below, precedes_before}
@@ -43,16 +43,17 @@ module _ (n : ℕ) (past : List Entry) (formed : AreLegalEntries n past) (i p l 
         | inr left ↦ inr (left.0, left.1, left.2, left.3, left.4, omega (arith, left.5, precedes_before past j v (accepted_forward n past formed) direct))
       ]
 
--- ---- the receiver of a delivery is the process of its event
+-- ---- the process of an event, and of a delivery
 
-receiver_named : (past : List Entry) (e : Entry) (d : Det) (p : ℕ) → det_of past e ≡ Some d → actor e ≡ Some p → p ≡ d.dest.0
-receiver_named past (Deliver to send rsn listed) d p h of = grind arith
-receiver_named past _ d p h of = absurd (let k : None ≡ Some d = h in cc)
+-- an event is an entry of its process
+pub process_of_event : (past : List Entry) (i p l : ℕ) → IsEventOf past i p l → process_at past i ≡ p
+process_of_event [] i p l of = absurd of
+process_of_event (e ∷ past) i p l of = grind (arith, cond-true, cond-false, event_below past i p l, process_of_event past i p l)
 
-receiver_is : (past : List Entry) (k : ℕ) (d : Det) (p l : ℕ) → det_at past k ≡ Some d → IsEventOf past k p l → p ≡ d.dest.0
-receiver_is [] k d p l h of = absurd of
-receiver_is (e ∷ past) k d p l h (inl old) = receiver_is past k d p l (sym (det_more e past k (event_below past k p l old)) ∙ h) old
-receiver_is (e ∷ past) k d p l h (inr new) = receiver_named past e d p (sym (cond-true (k == length past) (det_of past e) (det_at past k) (eq-eqb k (length past) new.0)) ∙ h) new.1
+-- the receiver of a delivery is the process of its position
+pub det_process : (past : List Entry) (k : ℕ) (d : Det) → det_at past k ≡ Some d → process_at past k ≡ d.dest.0
+det_process [] k d at = absurd (let h : None ≡ Some d = at in cc)
+det_process (e ∷ past) k d at = grind (arith, cond-true, cond-false, det_process past k d)
 
 -- ---- until then only the receiver depends on it
 
@@ -66,7 +67,7 @@ local past k spread u q p l of departures low within depends =
 pub alone : LocalHasNoOtherDependents
 alone n past k d spread u q formed at departures low within depends =
     let from = delivery_event past k d at in
-    (local past k spread u q from.0 from.1 from.2 departures low within depends).0 ∙ receiver_is past k d from.0 from.1 at from.2
+    (local past k spread u q from.0 from.1 from.2 departures low within depends).0 ∙ sym (process_of_event past k from.0 from.1 from.2) ∙ det_process past k d at
 
 -- ---- a covered delivery has no orphan
 
@@ -82,23 +83,12 @@ covered n f past k d spread u formed at departures within (inr more) has =
 
 -- ==== the process of each entry, and when the effect of a delivery leaves it
 
-acting_is : (e : Entry) (p : ℕ) → actor e ≡ Some p → event_process e ≡ p
-acting_is (Send from to ssn) p is = cc
-acting_is (Deliver to send rsn listed) p is = cc
-acting_is _ p is = absurd (let k : None ≡ Some p = is in cc)
-
 -- the newest entry of the longer past, and an older entry
 pub newest_entry : (e : Entry) (past : List Entry) (v : ℕ) → v ≡ length past → entry_at (e ∷ past) v ≡ Some e
 newest_entry e past v is = cond-true (v == length past) (Some e) (entry_at past v) (eq-eqb v (length past) is)
 
 pub older_entry : (e : Entry) (past : List Entry) (v : ℕ) (x : Entry) → entry_at past v ≡ Some x → entry_at (e ∷ past) v ≡ Some x
 older_entry e past v x at = grind (arith, cond-false, entry_within past v x at)
-
--- an event is an entry of its process
-pub process_of_event : (past : List Entry) (i p l : ℕ) → IsEventOf past i p l → process_at past i ≡ p
-process_of_event [] i p l of = absurd of
-process_of_event (e ∷ past) i p l (inl old) = grind (arith, cond-false, event_below past i p l old, process_of_event past i p l old)
-process_of_event (e ∷ past) i p l (inr new) = grind (arith, cond-true, acting_is e p new.1)
 
 -- the process of a position is that of the entry there
 pub process_is : (past : List Entry) (i : ℕ) (e : Entry) → entry_at past i ≡ Some e → process_at past i ≡ event_process e
@@ -124,10 +114,6 @@ delivered n (Deliver to send rsn listed ∷ past) formed v s (inr new) =
     )
 delivered n (_ ∷ past) formed v s (inr new) = absurd (false≢true new.1)
 
--- its receiver is the process of the delivery
-pub det_process : (past : List Entry) (k : ℕ) (d : Det) → det_at past k ≡ Some d → process_at past k ≡ d.dest.0
-det_process past k d at = let from = delivery_event past k d at in process_of_event past k from.0 from.1 from.2 ∙ receiver_is past k d from.0 from.1 at from.2
-
 -- the effect of a delivery stays with its process until the listed position
 pub stays_with : (n : ℕ) (past : List Entry) → AreLegalEntries n past → (departures : List ℕ) → AreDepartures past (process_at past) departures → (k : ℕ) → StaysLocalUntil past k (get_or departures k 0)
 stays_with n past formed departures are k v p l before of reach = grind (arith, common_steps, stays_or_left, process_of_event)
@@ -137,12 +123,6 @@ stays_with n past formed departures are k v p l before of reach = grind (arith, 
 -- a process that went down in lane l or an earlier one is still down, or up in a later lane
 abbrev Fell : ℕ → ℕ → List Entry → Type 0
 Fell p l past = ((is_down past p ≡ true) × (l ≤ lane past p)) ⊎ (l < lane past p)
-
-fell_more : (e : Entry) (past : List Entry) (p l : ℕ) → Fell p l past → Fell p l (e ∷ past)
-fell_more (Crash who) past p l (inl h) = inl (or_right (who.0 == p) (is_down past p) h.0, h.1)
-fell_more (Crash who) past p l (inr h) = inr h
-fell_more (Restart who listed) past p l h = grind arith
-fell_more _ past p l h = h
 
 -- no process depends on such a delivery
 pub crashed : CrashedHasNoDependents
@@ -154,11 +134,8 @@ crashed n past k d spread c u q formed at departures crash after before low with
     let down : is_down then q ≡ true = grind (arith, entry_then, eq-eqb) in
     let lane_low : from.1 ≤ lane then q = subst (λ x. from.1 ≤ lane then x) (sym same.0) (event_lane then k from.0 from.1 from.2) in
     let fell : Fell q from.1 (instant past u) =
-    onward_to (Fell q from.1) past (c + 1) u (omega (arith, before)) within (λ v e above below there h. fell_more e (instant past v) q from.1 h) (inl (down, lane_low)) in
-    elim fell [
-      | inl still ↦ false≢true (sym depends.up ∙ still.0)
-      | inr late ↦ omega (arith, late, same.1)
-    ]
+    onward_to (Fell q from.1) past (c + 1) u (omega (arith, before)) within (λ v e above below there h. grind (arith, nat_tests)) (inl (down, lane_low)) in
+    grind (arith, fell, depends.up, same.1)
 
 -- ==== the determinant of a delivery with an orphan is at risk
 
@@ -171,18 +148,11 @@ module _ (n most : ℕ) (past : List Entry) (formed : AreLegalEntries n past) (k
   orphan_thin =
       let e = exposed n most (instant past u) k d (det_then past u k orphan_made within ∙ at) has in
       let event = event_whole past u e.depends.event e.orphan (lane (instant past u) e.orphan) e.depends.present in
-      record {
-        unstable = e.unstable;
-        few = e.few;
-        left_over = grind (arith, det_process past k d at, reaches_whole past u k e.depends.event e.depends.reached, process_of_event past e.depends.event e.orphan _ event, event);
-      }
+      grind (arith, e.unstable, e.few, det_process past k d at, reaches_whole past u k e.depends.event e.depends.reached, process_of_event past e.depends.event e.orphan _ event, event)
 
   -- while its effect stays with the receiver, the determinant is at risk without the receiver
   pub orphan_bare : u ≤ spread → IsAtRiskWithoutReceiverAt n most past d u
-  orphan_bare low = record {
-    thin = orphan_thin;
-    receiver = false_from_ne_true (down_or_holding (instant past u) d d.dest.0) (λ here. covered n most past k d spread u formed at departures within (inr (inr (low, here))) has);
-  }
+  orphan_bare low = grind (arith, orphan_thin, false_from_ne_true (down_or_holding (instant past u) d d.dest.0), covered n most past k d spread u formed at departures within, has)
 
   -- and the receiver has not crashed since
   pub orphan_alive : u ≤ spread → (end c : ℕ) → u ≤ end → IsFirstCrash past d.dest.0 k end c → u ≤ c
@@ -216,17 +186,14 @@ delivers_entry (x ∷ past) j s e at (inr new) = grind arith
 
 -- the value of a slot is then the position, or unchanged
 noted_cases : (e : Entry) (i : ℕ) (list : List ℕ) (s : ℕ) → s < length list → (get_or (with_delivered e i list) s 0 ≡ i) ⊎ (get_or (with_delivered e i list) s 0 ≡ get_or list s 0)
-noted_cases (Deliver to send rsn listed) i list s there = grind (arith, get_or-set_at, get_or-set_other)
-noted_cases _ i list s there = inr refl
+noted_cases e i list s there = grind (arith, get_or-set_at, get_or-set_other)
 
 noted_here : (e : Entry) (i : ℕ) (list : List ℕ) (s : ℕ) → is_delivery_of s e ≡ true → s < length list → get_or (with_delivered e i list) s 0 ≡ i
-noted_here (Deliver to send rsn listed) i list s is there = get_or-set_at list send s i 0 (sym (eqb-true send s is)) (omega (arith, eqb-true send s is, there))
-noted_here _ i list s is there = absurd (false≢true is)
+noted_here e i list s is there = grind (arith, get_or-set_at, eqb-true)
 
 -- the write does not change the length
 pub noted_length : (e : Entry) (i : ℕ) (list : List ℕ) → length (with_delivered e i list) ≡ length list
-noted_length (Deliver to send rsn listed) i list = length-set list send i
-noted_length _ i list = refl
+noted_length e i list = grind (arith, length-set)
 
 -- ---- from the last entry to the first
 
@@ -259,17 +226,11 @@ module _ (n : ℕ) (past : List Entry) (formed : AreLegalEntries n past) (whose 
     noted_low : (s j : ℕ) → s < length past → i ≤ j → get_or spreads s 0 ≤ j → get_or noted s 0 ≤ j
     noted_low s j inside up low = grind (arith, noted_cases)
 
-    first_own : first ≤ get_or noted i 0
-    first_own = omega arith
-
-    first_lane : first ≤ get_or outs lane 0
-    first_lane = omega arith
-
     noted_first : (s j : ℕ) → s < i → i ≤ j → Delivers past j s → get_or noted s 0 ≤ j
     noted_first s j low up delivers = grind (arith, delivers_entry, noted_here, noted_low)
 
     outs_next : (s j : ℕ) → i ≤ s → Delivers past j s → get_or (slice_set outs lane first) (whose s) 0 ≤ j
-    outs_next s j up delivers = grind (arith, get_or-set_at, after j s delivers, noted_low, first_own, first_lane, get_or-set_other)
+    outs_next s j up delivers = grind (arith, get_or-set_at, after j s delivers, noted_low, get_or-set_other)
 
     -- with one more entry
     pub spreads_next : AreSpreadsFrom past whose i (slice_set noted i first) (slice_set outs lane first)

@@ -69,6 +69,7 @@ impl ByProcess {
 
     /// Returns the first position at or after `from` of one of these processes, or `end` if that is earlier. It is the
     /// least over the processes.
+    #[tactic(auto, using(crate::proofs::group::GroupReach::fewer))]
     pub fn next_among(&self, members: Holders, from: u32, end: u32) -> u32
         requires { from ≤ end }
         ensures bounds { (from ≤ result) × (result ≤ end) }

@@ -7,7 +7,6 @@ use Rattle.causal_audit.proofs.by_clock.events.clocks_of.Goals as goal
 
 pub add_event-requires : goal.add_event-requires
 add_event-requires c = let r = c.args.trace.now.recording in
-    let items = c.entries-entry-items.result.now in
     let i = c.loop-entry.entry-index in
     let next : instant r.past (i + 1) ≡ c.entry-item.result ∷ instant r.past i = grind (arith, next_state, length-reverse) in
     let formed = c.processes-n.ensures.formed in
@@ -23,7 +22,6 @@ add_event-requires c = let r = c.args.trace.now.recording in
 
 pub loop-entry-preserved : goal.loop-entry-preserved
 loop-entry-preserved c = let r = c.args.trace.now.recording in
-    let items = c.entries-entry-items.result.now in
     let n = r.processes in
     let i = c.loop-entry.entry-index in
     let next : instant r.past (i + 1) ≡ c.entry-item.result ∷ instant r.past i = grind (arith, next_state, length-reverse) in

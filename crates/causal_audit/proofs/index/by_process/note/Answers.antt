@@ -13,8 +13,5 @@ returns-in-Some-clause-transitions c =
     (turns_more c.args.restarts c.args.entry.now past lists are c.in-Some.process c.in-Some.ensures there))
     c.push_to_list.ensures.added
 
-pub returns-in-None : goal.returns-in-None
-returns-in-None c = record {
-  transitions = λ past long are. turns_same c.args.restarts c.args.entry.now past (map (λ list. list.items) c.args.lists.now.items) are c.in-None.ensures;
-  count = c.requires;
-}
+pub returns-in-None-clause-transitions : goal.returns-in-None-clause-transitions
+returns-in-None-clause-transitions c past long are = turns_same c.args.restarts c.args.entry.now past (map (λ list. list.items) c.args.lists.now.items) are c.in-None.ensures

@@ -18,8 +18,5 @@ returns-in-Restart-clause-falls c =
     (falls_more c.args.entry.now past lists are (len c.args.down) (λ n legal. sym (counted n c.args.down _ (down_members n (c.args.entry.now ∷ past) c.args.down legal shown))) there))
     c.push_to_list.ensures.added
 
-pub returns-in_default : goal.returns-in_default
-returns-in_default c = record {
-  falls = λ past long shown are. falls_same c.args.entry.now past (map (λ list. list.items) c.args.lists.now.items) are c.in_default.not-Restart;
-  count = c.requires;
-}
+pub returns-in_default-clause-falls : goal.returns-in_default-clause-falls
+returns-in_default-clause-falls c past long shown are = falls_same c.args.entry.now past (map (λ list. list.items) c.args.lists.now.items) are c.in_default.not-Restart

@@ -1,4 +1,4 @@
-use Rattle.causal_audit.proofs.Common.{◌≡◌, ◌+◌, ◌≤◌, List, [], ◌∷◌, length, reverse, reverse-append, reverse-reverse, ◌∙◌, length-append, ap, arith, sym, subst, take, instant, accepted_then, listed_by, listed_in, Entry, Send}
+use Rattle.causal_audit.proofs.Common.{◌≡◌, ◌+◌, ◌≤◌, List, [], ◌∷◌, length, reverse, reverse-append, reverse-reverse, ◌∙◌, length-append, ap, arith, sym, subst, take, instant, accepted_then, listed_by, listed_in, Entry}
 use Rattle.std.proofs.lemmas.Grind.{flat_map-append}
 use Rattle.std.proofs.lemmas.List.Concat.{length-flat_map}
 use Rattle.causal_trace.proofs.Lemmas.WellFormed.{accepted_short}
@@ -18,14 +18,11 @@ numbers_of-requires c =
     mentioned_numbered c.args.trace.now.recording c.entries.result.now c.entries.ensures.value c.entries.ensures.formed.accepted c.args.end c.lists_needed-among.result c.requires c.lists_needed-among.ensures
 
 -- an entry mentions what it lists, and a stable entry one determinant
-mentions_few : (e : Entry) → length (mentioned_dets e) ≤ length (listed_by e) + 1
-mentions_few (Send from to ssn) = omega arith
-mentions_few _ = omega arith
-
 all_few : (past : List Entry) → length (flat_map mentioned_dets (reverse past)) ≤ listed_in past + length past
 all_few [] = omega arith
 all_few (e ∷ past) =
-    omega (arith, all_few past, mentions_few e, ap (λ es. length (flat_map mentioned_dets es)) (reverse-append (e ∷ []) past), ap length (flat_map-append mentioned_dets (reverse past) (e ∷ [])), length-append (flat_map mentioned_dets (reverse past)) (flat_map mentioned_dets (e ∷ [])), length-flat_map mentioned_dets (e ∷ []))
+    let few : length (mentioned_dets e) ≤ length (listed_by e) + 1 = grind arith in
+    omega (arith, all_few past, few, ap (λ es. length (flat_map mentioned_dets es)) (reverse-append (e ∷ []) past), ap length (flat_map-append mentioned_dets (reverse past) (e ∷ [])), length-append (flat_map mentioned_dets (reverse past)) (flat_map mentioned_dets (e ∷ [])), length-flat_map mentioned_dets (e ∷ []))
 
 pub build_mentions-requires-clause-countable : goal.build_mentions-requires-clause-countable
 build_mentions-requires-clause-countable c =

@@ -1,12 +1,8 @@
-use Rattle.std.proofs.lemmas.Grind.{common_steps}
 use Rattle.std.proofs.lemmas.List.Sums.{sum_by-set}
 use Rattle.causal_audit.proofs.Common.{◌≡◌, ◌+◌, ◌<◌, ◌∙◌, length, get_or, set, take, subst, sym, arith, length-set, get_or_default}
 use Rattle.causal_audit.specs.Inside.Index.Packed.{AreOccurrences}
-use Rattle.causal_audit.proofs.index.Capacities.{counted_few, none_counted, one_more_counted}
+use Rattle.causal_audit.proofs.index.Capacities.{counted_few, one_more_counted}
 use Rattle.causal_audit.proofs.index.mentions.occurrences.Goals as goal
-
-pub loop-number-init : goal.loop-number-init
-loop-number-init c = grind (arith, common_steps, none_counted)
 
 pub overflow_add-index_mut : goal.overflow_add-index_mut
 overflow_add-index_mut c =

@@ -1,11 +1,8 @@
-use Rattle.causal_audit.proofs.Common.{◌≡◌, ◌-◌, take, drop, ap, sym, ◌∙◌, arith, take-map, drop-map, All-drop, All-take, Recording}
+use Rattle.causal_audit.proofs.Common.{◌≡◌, ◌-◌, take, drop, ap, sym, ◌∙◌, arith, take-map, drop-map, All-drop, All-take}
 use Rattle.causal_audit.specs.Parts.{FollowedDeliveries}
 use Rattle.causal_audit.specs.declared.group.walk_input.OpenDelivery.{OpenDelivery}
 use Rattle.causal_audit.specs.Inside.Group.OpenDeliveries.{AreOpenDeliveries, IsDeliveryAt, IsOpenDelivery}
 use Rattle.causal_audit.proofs.prepared_run.PreparedRun.part.Goals as goal
-
-abbrev is_of_delivery : Recording → OpenDelivery → Type 0
-is_of_delivery r delivery = IsDeliveryAt r.past delivery.position
 
 pub invariant_of-result : goal.invariant_of-result
 invariant_of-result c =
@@ -18,7 +15,7 @@ invariant_of-result c =
     let candidates = s.candidates.items in
     let part : AreOpenDeliveries r s.f s.end (take many (drop from candidates)) = record {
       within = followed.within;
-      deliveries = All-take (is_of_delivery r) many (drop from candidates) (All-drop (is_of_delivery r) from candidates followed.deliveries);
+      deliveries = All-take (λ (delivery : OpenDelivery). IsDeliveryAt r.past delivery.position) many (drop from candidates) (All-drop (λ (delivery : OpenDelivery). IsDeliveryAt r.past delivery.position) from candidates followed.deliveries);
       none_later = All-take (IsOpenDelivery r s.f s.end) many (drop from candidates) (All-drop (IsOpenDelivery r s.f s.end) from candidates followed.none_later);
     } in
     (rw (← same, c.deref.ensures.value) part, omega arith)

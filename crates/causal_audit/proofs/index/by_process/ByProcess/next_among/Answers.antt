@@ -1,11 +1,7 @@
-use Rattle.causal_audit.proofs.Common.{subst, arith}
+use Rattle.causal_audit.proofs.Common.{arith}
 use Rattle.causal_audit.specs.Inside.Index.Lists.{lists_in}
-use Rattle.causal_audit.proofs.group.GroupReach.{fewer}
-use Rattle.causal_audit.proofs.index.Filings.{RestNone, none_crashes, none_rest, rest_less}
+use Rattle.causal_audit.proofs.index.Filings.{none_crashes, none_rest, rest_less}
 use Rattle.causal_audit.proofs.index.by_process.ByProcess.next_among.Goals as goal
-
-pub loop-process-smaller : goal.loop-process-smaller
-loop-process-smaller c = grind (arith, fewer)
 
 pub loop-process-preserved : goal.loop-process-preserved
 loop-process-preserved c = record {
@@ -18,13 +14,7 @@ loop-process-preserved c = record {
 }
 
 pub returns-clause-none : goal.returns-clause-none
-returns-clause-none c past are =
-    let lists = lists_in c.args.self.now.lists.items in
-    none_rest past lists c.args.members c.args.from c.loop-process.next are
-    (subst (λ rest. RestNone lists c.args.members rest c.args.from c.loop-process.next) c.in_default.ensures c.loop-process.invariant.none)
+returns-clause-none c past are = none_rest past _ c.args.members c.args.from c.loop-process.next are (rw c.in_default.ensures at c.loop-process.invariant.none)
 
 pub returns-clause-crashed : goal.returns-clause-crashed
-returns-clause-crashed c past are =
-    let lists = lists_in c.args.self.now.lists.items in
-    none_crashes past lists c.args.members c.args.from c.loop-process.next are
-    (subst (λ rest. RestNone lists c.args.members rest c.args.from c.loop-process.next) c.in_default.ensures c.loop-process.invariant.none)
+returns-clause-crashed c past are = none_crashes past _ c.args.members c.args.from c.loop-process.next are (rw c.in_default.ensures at c.loop-process.invariant.none)

@@ -7,9 +7,7 @@ pub new-ahead-requires : goal.new-ahead-requires
 new-ahead-requires c = let lists = c.args.self.now.lists.items in
     let inside : c.from.result < length lists = omega (arith, c.from.ensures, c.ranges.count.fits, c.args.self.now.count) in
     let is : list_at (lists_in lists) c.from.result ≡ c.as_slice-list.result.now = grind (arith, get_or-map) in
-    record {
-      ascending = grind (arith, All-get_or, length-map);
-    }
+    grind (arith, All-get_or, length-map)
 
 is : (c : goal.After-next) → list_at (lists_in c.args.self.now.lists.items) c.args.count ≡ c.as_slice-list.result.now
 is c = grind (arith, get_or-map)
