@@ -28,6 +28,7 @@ use Rattle.causal_log.specs.declared.known.Known.{Known}
 use Rattle.causal_log.specs.declared.table.SlotKey.{SlotKey}
 use Rattle.causal_log.specs.Slots.{is_of_slot}
 use Rattle.causal_log.specs.Inside.Ranks.{IsAmong, IsLeastOfSlot, lesser_det}
+use Rattle.causal_log.specs.Inside.KeyWords.{same_slot_key_is}
 use Rattle.causal_log.specs.Inside.Tables.{HasSlotKey, IsNotLater, is_later, slot_key, same_slot_key, IsTable}
 use Rattle.causal_log.proofs.EntryLemmas.{inserted, below, map_sorted, not_itself, det_equiv, get_log}
 use Rattle.causal_log.proofs.Lemmas.Ascents.{before_trans}
@@ -35,10 +36,6 @@ use Rattle.std.specs.FinMap as fin
 use Rattle.causal_log.specs.declared.limits.TheConstants.{MAX_LOGGED}
 use Rattle.causal_log.specs.Logs.{log_of}
 use Rattle.std.proofs.Math.Seq.{map-set_same}
-
--- equal keys are one
-same_slot_key_is : (p q : SlotKey) → same_slot_key p q ≡ true → p ≡ q
-same_slot_key_is p q h = grind (arith, and_parts, eqb-true)
 
 pub slot_key_equiv : IsEquivalence same_slot_key
 slot_key_equiv = record { refl = λ p. grind (arith, nat_tests); symm = λ p q. grind (arith, nat_tests); congr = λ p q r h. ap (λ x. same_slot_key x r) (same_slot_key_is p q h) }

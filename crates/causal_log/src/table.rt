@@ -13,7 +13,7 @@ ghost use Rattle.causal_log.specs.declared.known.Known.{Known};
 ghost use Rattle.causal_log.specs.Knowledge.{union_with, is_carried};
 ghost use Rattle.causal_log.specs.Logs.{is_forgotten, log_of, item_of, batch_items, after_learn, IsLogged, after_absorb, after_learn_all};
 ghost use Rattle.causal_log.specs.Inside.Ranks.{IsLeastOfSlot, has_rank, lesser_det};
-ghost use Rattle.causal_log.specs.Inside.Tables.{HasSlotKey, is_later, slot_key, same_slot_key};
+ghost use Rattle.causal_log.specs.Inside.Tables.{HasSlotKey, is_later, key_word, slot_key, same_slot_key};
 
 use crate::batch::Item;
 use crate::hashing::SeededState;
@@ -23,14 +23,40 @@ use causal_name::{Det, NoMemory, Pid, Slot};
 use indexmap::IndexMap;
 use indexmap::map::Entry;
 use std::alloc::Global;
+use std::hash::{Hash, Hasher};
 use std::marker::Model;
 
 /// The key of an entry: its determinant's slot, and a number that tells apart entries of one slot. In a run each slot
-/// has one entry, whose number is 0. Of two whole words, a key is copied faster than one of three halves.
-#[derive(Clone, Copy, PartialEq, Eq, Hash)]
+/// has one entry, whose number is 0.
+#[derive(Clone, Copy, PartialEq, Eq)]
 pub(crate) struct SlotKey {
     pub slot: Slot,
-    pub number: u64,
+    pub number: u32,
+}
+
+impl SlotKey {
+    /// Returns a word that few keys share: none in a run, and of one slot none whose numbers are below 2^24.
+    fn word(self) -> u64
+        ensures { result ≡ key_word self }
+    {
+        let place = u64::from(self.slot.dest.0) * 4_294_967_296 + u64::from(self.slot.rsn);
+        place.wrapping_add(u64::from(self.number).wrapping_mul(1_099_511_627_776))
+    }
+}
+
+/// A key is hashed as one word: three parts would take a step of the hasher each.
+impl Hash for SlotKey {
+    ghost use Rattle.std.specs.Hash as fed;
+    ghost use Rattle.causal_log.specs.Inside.Tables.{key_word};
+    ghost use Rattle.causal_log.specs.Inside.KeyWords.{same_words};
+
+    ghost hash_input = { λ key. fed.u64 (key_word key) };
+
+    ghost respects_eq = { same_words };
+
+    fn hash<H: Hasher>(&self, state: &mut H) {
+        state.write_u64(self.word());
+    }
 }
 
 /// Tables with a larger capacity leave a smaller share of it unused: an eighth.
@@ -41,7 +67,7 @@ const SMALL_CAPACITY: usize = 1152;
 pub(crate) struct Table {
     entries: IndexMap<SlotKey, (Det, Known), SeededState>,
     /// The number of each entry's key is less than this; at most 1 in a run.
-    numbers: u64,
+    numbers: u32,
     /// No entry has a later slot of the same process, so looking up a later one needs no hash. `None` before `watch`.
     last: Option<Slot>,
     /// How many more entries can be added without allocation.
@@ -337,7 +363,7 @@ fn usable_spare(entries: &Entries, unused: u8) -> usize
 }
 
 /// Returns the index of a determinant's entry, and what is known of it. Each entry's number is less than `numbers`.
-fn search(entries: &Entries, numbers: u64, det: Det) -> Option<(usize, Known)>
+fn search(entries: &Entries, numbers: u32, det: Det) -> Option<(usize, Known)>
     requires { All (HasSlotKey numbers) entries.now.entries }
     ensures place { IfSome result (λ found. slice_get (values entries.now) found.0 ≡
         Some (det, found.1)) }
@@ -360,7 +386,7 @@ fn search(entries: &Entries, numbers: u64, det: Det) -> Option<(usize, Known)>
 }
 
 /// Returns the determinant of the entry with this slot and number.
-fn det_of_key(entries: &Entries, slot: Slot, number: u64) -> Option<Det>
+fn det_of_key(entries: &Entries, slot: Slot, number: u32) -> Option<Det>
     ensures { result ≡ option_map (λ e. e.0)
         (get same_slot_key entries.now (slot_key slot number)) }
 {
@@ -417,7 +443,7 @@ fn lesser_det(found: Option<Det>, other: Option<Det>) -> Option<Det>
 }
 
 /// Returns the least determinant of a slot. Each entry's number is less than `numbers`.
-fn least_of_slot(entries: &Entries, numbers: u64, slot: Slot) -> Option<Det>
+fn least_of_slot(entries: &Entries, numbers: u32, slot: Slot) -> Option<Det>
     requires { All (HasSlotKey numbers) entries.now.entries }
     ensures { IsLeastOfSlot slot.dest slot.rsn (keys_of (values entries.now)) result }
 {
@@ -468,7 +494,7 @@ fn insert_unless_used(
 }
 
 /// Returns the least number that no entry of this slot has.
-fn unused_number(entries: &Entries, numbers: u64, slot: Slot) -> u64
+fn unused_number(entries: &Entries, numbers: u32, slot: Slot) -> u32
     requires { All (HasSlotKey numbers) entries.now.entries }
     ensures within { result ≤ numbers }
     ensures few { result ≤ length entries.now.entries }

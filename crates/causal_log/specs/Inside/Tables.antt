@@ -1,5 +1,5 @@
 -- A table of log entries in insertion order, keyed by slot and number, with reserved capacity.
-use Rattle.std.specs.Prelude.{◌≡◌, ◌==◌, ◌&&◌, ℕ, Bool, ◌+◌, ◌<◌, ◌≤◌, All, List, Option, Some, None, false, nat_lt, length, refl}
+use Rattle.std.specs.Prelude.{◌≡◌, ◌==◌, ◌&&◌, ℕ, Bool, ◌+◌, ◌*◌, ◌%◌, ◌^◌, ◌<◌, ◌≤◌, All, List, Option, Some, None, false, nat_lt, length, refl}
 use Rattle.std.specs.Coded.{Coded, code_by, coded×, coded_list, coded_ℕ}
 use Rattle.std.specs.List.{IsDistinct}
 use Rattle.std.specs.Map.{keys_of, values_of}
@@ -24,6 +24,10 @@ coded_table =
 -- the key of a slot's entry with this number
 abbrev pub slot_key : Slot → ℕ → SlotKey
 slot_key slot number = record { slot = slot; number = number }
+
+-- the word by which a key is hashed
+abbrev pub key_word : SlotKey → ℕ
+key_word key = (key.slot.dest.0 * 4294967296 + key.slot.rsn + (key.number * 1099511627776) % 2 ^ 64) % 2 ^ 64
 
 -- two keys are equal
 abbrev pub same_slot_key : SlotKey → SlotKey → Bool
