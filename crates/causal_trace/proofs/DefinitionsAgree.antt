@@ -3,7 +3,7 @@ use Rattle.std.proofs.Common.{ℕ, List, [], ◌∷◌, ◌++◌, refl, sym, sub
 use Rattle.std.proofs.lemmas.Option.{slice_get-get_or}
 use Rattle.std.proofs.lemmas.Bool.{eqb-true, cond-true, cond-false, eq-eqb, ne_eqb, false≢true}
 use Rattle.causal_trace.specs.declared.entry.Entry.{Entry}
-use Rattle.causal_trace.specs.declared.entry.Entry.TheVariants.{Crash, Stable}
+use Rattle.causal_trace.specs.declared.entry.Entry.TheVariants.{Send, Deliver, Stable, Crash, Restart, Forget}
 use Rattle.causal_trace.specs.Dependence.{DirectlyPrecedes, Reaches, itself, onward, IsEventOf}
 use Rattle.causal_trace.specs.Laws.{InstantsArePrefixes, InstantsKeepPlaces, DownIsLastTransition, LogIsLastListing, IsPath, ReachesByPath, SendsAreCounted, DeliveriesAreCounted, DeliveredAtPosition, StableAtPosition}
 use Rattle.causal_trace.proofs.Lemmas.Instants.{entry_there, instant_past, entry_beyond}
@@ -30,7 +30,12 @@ instants_keep_places entries t k within below = grind (arith, entry_there entrie
 -- a process is down if and only if its last crash or restart is a crash
 pub down_last : DownIsLastTransition
 down_last [] p = refl
-down_last (e ∷ past) p = grind (arith, down_last past p)
+down_last (Send from to ssn ∷ past) p = down_last past p
+down_last (Deliver to send rsn listed ∷ past) p = down_last past p
+down_last (Stable d ∷ past) p = down_last past p
+down_last (Crash who ∷ past) p = grind (arith, down_last past p)
+down_last (Restart who listed ∷ past) p = grind (arith, down_last past p)
+down_last (Forget who listed ∷ past) p = down_last past p
 
 -- paths
 
@@ -55,19 +60,34 @@ reaches_path past i j = (by_path past i j, λ h. along past i i h.1.0 j (itself 
 -- a process that is up logs d if and only if the last entry of its lane that lists d is not a forget entry
 pub log_last : LogIsLastListing
 log_last n [] p d t = refl
-log_last n (e ∷ past) p d t = grind (arith, eqb-true, delivers_up, restarts_down, log_last n past p d t.0)
+log_last n (Send from to ssn ∷ past) p d t = log_last n past p d t.0
+log_last n (Deliver to send rsn listed ∷ past) p d t = grind (arith, eqb-true, delivers_up, log_last n past p d t.0)
+log_last n (Stable det ∷ past) p d t = log_last n past p d t.0
+log_last n (Crash who ∷ past) p d t = grind (arith, eqb-true, log_last n past p d t.0)
+log_last n (Restart who listed ∷ past) p d t = grind (arith, eqb-true, restarts_down, log_last n past p d t.0)
+log_last n (Forget who listed ∷ past) p d t = grind (arith, eqb-true, log_last n past p d t.0)
 
 -- counts
 
 -- the send count of the present lane is the number of its send entries
 pub sends_counted : SendsAreCounted
 sends_counted [] p = refl
-sends_counted (e ∷ past) p = grind (arith, sends_counted past p)
+sends_counted (Send from to ssn ∷ past) p = grind (arith, sends_counted past p)
+sends_counted (Deliver to send rsn listed ∷ past) p = sends_counted past p
+sends_counted (Stable d ∷ past) p = sends_counted past p
+sends_counted (Crash who ∷ past) p = sends_counted past p
+sends_counted (Restart who listed ∷ past) p = grind (arith, sends_counted past p)
+sends_counted (Forget who listed ∷ past) p = sends_counted past p
 
 -- the delivery count of the present lane is the number of its delivery entries
 pub deliveries_counted : DeliveriesAreCounted
 deliveries_counted [] p = refl
-deliveries_counted (e ∷ past) p = grind (arith, deliveries_counted past p)
+deliveries_counted (Send from to ssn ∷ past) p = deliveries_counted past p
+deliveries_counted (Deliver to send rsn listed ∷ past) p = grind (arith, deliveries_counted past p)
+deliveries_counted (Stable d ∷ past) p = deliveries_counted past p
+deliveries_counted (Crash who ∷ past) p = deliveries_counted past p
+deliveries_counted (Restart who listed ∷ past) p = grind (arith, deliveries_counted past p)
+deliveries_counted (Forget who listed ∷ past) p = deliveries_counted past p
 
 -- delivered determinants
 
