@@ -4,9 +4,9 @@
     prove.py ROOM
 
 Each crate is proved as the kit's `rt ci` proves it, by one call of `rattle`, over the libraries below it. Only the order differs: the
-crate with the most work behind it comes first, and a crate for which others do not wait gets more than one processor. What `rt ci` does
-beside that is left out: tests, must-fail edits, a second compiler. The status is 1 if a crate is not proved, and 2 if the kit gave no
-answer, as another kit may that has other words; then the end of its log is printed.
+crate with the most work behind it comes first, and a crate whose chain would otherwise end last is proved by several processes. What
+`rt ci` does beside that is left out: tests, must-fail edits, a second compiler, the search for contracts that say nothing. The status is
+1 if a crate is not proved, and 2 if the kit gave no answer, as another kit may that has other words; then the end of its log is printed.
 """
 import glob
 import os
@@ -19,7 +19,11 @@ import time
 PROGRAM = "causal_tool"
 MEMORY = 3_000_000_000  # bytes that one proof takes at most
 MOST_JOBS = 4  # more gain nothing
-FIXED, EACH_LINE = 25, 0.12  # what a proof costs: a part for loading what is below, and one for each line of code
+MORE_JOBS = 2  # jobs beyond one for each processor, since no proof keeps all its jobs busy
+BEHIND = 10  # by how much a proof that is not urgent stands behind the others, in the system's priorities
+FIXED, EACH_LINE = 15, 0.085  # seconds that a proof takes: for loading what is below, and for each line of code
+# How many times as long as that rule says the proofs of a crate take that is generic, or whose `main` holds the whole program.
+DEARER = {"causal_memory": 1.4, "causal_core": 1.3, "causal_shared": 1.7, "causal_run": 2.2, "causal_runtime_commands": 1.3, PROGRAM: 2}
 # Words on a proof's last line that no crate of the repository may have.
 REFUSED = ("foreign", "hides", "partial", "may-abort", "may-serve", "bugs")
 
@@ -38,7 +42,8 @@ class Crate:
         self.of_kit = ["std", *(it for it in uses if it not in ours)]
         self.library = os.path.join(self.folder, "out", "rlib", f"{name}.rlib")
         self.log = os.path.join(self.folder, "out", "prove.log")
-        self.cost = FIXED + EACH_LINE * sum(map(lines_of, glob.glob(f"{self.folder}/src/**/*.rt", recursive=True)))
+        lines = sum(map(lines_of, glob.glob(f"{self.folder}/src/**/*.rt", recursive=True)))
+        self.cost = DEARER.get(name, 1) * (FIXED + EACH_LINE * lines)
 
 
 class NotProved(Exception):
@@ -96,7 +101,7 @@ def words(kit, crates, crate, jobs):
     for it in below(crates, crate):
         found += ["-L", f"dependency={os.path.dirname(it.library)}"]
     found += ["--antt-project", f"{kit}/rattle/logic/antt-project.json", "--logic-built", f"{kit}/logic_built"]
-    found += ["--links", f"{crate.name}=", "--jobs", str(jobs), "--empty-contracts"]
+    found += ["--links", f"{crate.name}=", "--jobs", str(jobs)]
     if crate.name == PROGRAM:
         return [*found, "--toolchain", f"{kit}/toolchain", "--backend", "llvm", "-o", f"out/{PROGRAM}.o"]
     return [*found, "--statements", "-o", crate.library]
@@ -125,44 +130,47 @@ def lanes():
 
 
 class Proving:
-    """The crates that are left, those that are being proved, with their processes and processors, and those that are proved."""
+    """The crates that are left, those that are being proved, with their processes and jobs, and those that are proved."""
 
     def __init__(self, kit, crates):
         self.kit, self.crates = kit, crates
         self.behind = work_behind(crates)
         self.left = sorted(crates, key=lambda name: -self.behind[name])
         self.running, self.proved = {}, set()
-        self.idle = lanes()
+        self.lanes = lanes()
 
     def start_ready(self):
-        """Begins the proofs of crates that wait for nothing, as long as a processor is idle."""
-        ready = [name for name in self.left if self.proved.issuperset(self.crates[name].ours)]
-        for at, name in enumerate(ready):
-            if not self.idle:
+        """Begins the proofs of crates that wait for nothing, as long as processors and jobs are left."""
+        for name in [name for name in self.left if self.proved.issuperset(self.crates[name].ours)]:
+            if len(self.running) >= self.lanes or sum(jobs for _, jobs in self.running.values()) >= self.lanes + MORE_JOBS:
                 return
-            self.start(name, max(1, min(MOST_JOBS, self.idle // (len(ready) - at))))
+            self.start(name, self.jobs_for(name))
+
+    def jobs_for(self, name):
+        """As many jobs as the chain that begins with the crate needs, so that it ends no later than all work on all processors, and a
+        fifth more, since a proof's jobs wait for one another."""
+        work = sum(self.crates[it].cost for it in (*self.left, *self.running))
+        return max(1, min(MOST_JOBS, self.lanes, round(1.2 * self.behind[name] * self.lanes / work)))
 
     def start(self, name, jobs):
         crate = self.crates[name]
         shutil.rmtree(os.path.join(crate.folder, "out"), ignore_errors=True)
         os.makedirs(os.path.dirname(crate.library))
+        command = ["nice", "-n", str(0 if jobs > 1 else BEHIND), *words(self.kit, self.crates, crate, jobs)]
         with open(crate.log, "w") as log:
-            command = words(self.kit, self.crates, crate, jobs)
             process = subprocess.Popen(command, cwd=crate.folder, stdin=subprocess.DEVNULL, stdout=log, stderr=log)
         self.left.remove(name)
         self.running[name] = process, jobs
-        self.idle -= jobs
 
     def end_finished(self):
-        """Takes note of the proofs that have ended."""
-        for name, (process, jobs) in list(self.running.items()):
-            if process.poll() is None:
-                continue
-            del self.running[name]
-            self.idle += jobs
-            if process.returncode or not is_proved(self.crates[name]):
-                raise NotProved(self.crates[name], 1 if process.returncode in (0, 1) else 2)
+        """Takes note of the proofs that have ended, and returns their crates' names."""
+        ended = [name for name, (process, _) in self.running.items() if process.poll() is not None]
+        for name in ended:
+            status = self.running.pop(name)[0].returncode
+            if status or not is_proved(self.crates[name]):
+                raise NotProved(self.crates[name], 1 if status in (0, 1) else 2)
             self.proved.add(name)
+        return ended
 
     def stop(self):
         for process, _ in self.running.values():
@@ -172,15 +180,13 @@ class Proving:
 
 def prove_all(kit, crates):
     """Proves all crates."""
-    proving, began, told = Proving(kit, crates), time.monotonic(), 0
+    proving, began = Proving(kit, crates), time.monotonic()
     try:
         while proving.left or proving.running:
             proving.start_ready()
             time.sleep(0.2)
-            proving.end_finished()
-            if len(proving.proved) > told:
-                told = len(proving.proved)
-                say(f"{told} of {len(crates)} crates proved after {time.monotonic() - began:.0f} s")
+            for name in proving.end_finished():
+                say(f"{name} proved after {time.monotonic() - began:.0f} s, {len(proving.proved)} of {len(crates)} crates")
     finally:
         proving.stop()
 
