@@ -8,10 +8,22 @@ use Rattle.causal_audit.specs.Inside.Among.{FirstBreachBy, HasNoOrphanBy, IsEarl
 use Rattle.causal_audit.proofs.Lemmas.NumberLemmas.{has_number}
 use Rattle.causal_audit.proofs.DeliveryNumbers.{numbered_later, numbered_below, numbered_one, numbered_some}
 
+-- what is at or after a is at or after what comes before a
+before_least : (a b : Breach) (k t : ℕ) → comes_before b a ≡ true → (a.instant ≤ t) × (a.instant ≡ t → a.delivery ≤ k) → (b.instant ≤ t) × (b.instant ≡ t → b.delivery ≤ k)
+before_least a b k t h later = grind arith
+
+-- what is at or after b is at or after a, if b does not come before a
+not_before_least : (a b : Breach) (k t : ℕ) → comes_before b a ≡ false → (b.instant ≤ t) × (b.instant ≡ t → b.delivery ≤ k) → (a.instant ≤ t) × (a.instant ≡ t → a.delivery ≤ k)
+not_before_least a b k t h later = grind arith
+
 module _ (r : Recording) (f : ℕ) where
   -- the first breach of a delivery is at or before each of its orphans
   first_least : (k : ℕ) (b : Breach) → IsFirstBreach r f k b → (t : ℕ) → HasOrphan r.processes f (instant r.past t) k → (b.instant ≤ t) × (b.instant ≡ t → b.delivery ≤ k)
   first_least k b first t has = grind arith
+
+  -- a breach by a bound is at or before each orphan after it
+  by_bound : (b : Breach) (end t k : ℕ) → b.instant ≤ end → end < t → (b.instant ≤ t) × (b.instant ≡ t → b.delivery ≤ k)
+  by_bound b end t k low late = (omega (arith, low, late), λ same. absurd (omega (arith, low, late, same)))
 
   -- the empty list contains no number
   nothing : (k : ℕ) → Contains {X = ℕ} [] k → ⊥
@@ -24,7 +36,10 @@ module _ (r : Recording) (f : ℕ) where
     record {
       among = Contains-append_right positions more b.delivery other.among;
       first = other.first;
-      least = λ j t listed in_time has. grind (arith, Contains-append_cases positions more j listed, before, one.least j t, other.least j t);
+      least = λ j t listed in_time has. elim (Contains-append_cases positions more j listed) [
+        | inl old ↦ before_least a b j t before (one.least j t old in_time has)
+        | inr new ↦ other.least j t new in_time has
+      ];
     },
   )
   chosen positions more end a b low short one other false before = (
@@ -32,7 +47,10 @@ module _ (r : Recording) (f : ℕ) where
     record {
       among = Contains-append_left positions more a.delivery one.among;
       first = one.first;
-      least = λ j t listed in_time has. grind (arith, Contains-append_cases positions more j listed, before, one.least j t, other.least j t);
+      least = λ j t listed in_time has. elim (Contains-append_cases positions more j listed) [
+        | inl old ↦ one.least j t old in_time has
+        | inr new ↦ not_before_least a b j t before (other.least j t new in_time has)
+      ];
     },
   )
 
@@ -42,18 +60,28 @@ module _ (r : Recording) (f : ℕ) where
 
   -- for one position the earliest breach is the first breach of its delivery
   among_one : (end k : ℕ) (found : Option Breach) → FirstBreachBy r f end k found → EarliestAmongBy r f end (k ∷ []) found
-  among_one end k found one = grind (arith, Contains-push [] k, Contains-push_cases, nothing, first_least)
+  among_one end k None none = λ j t listed low has. grind (arith, Contains-push_cases [] k j listed, nothing)
+  among_one end k (Some b) one = grind (arith, Contains-push [] k, Contains-push_cases, nothing, first_least)
 
   -- Further positions need a search only up to the instant of the breach so far.
   pub among_joined : (end until : ℕ) (positions more : List ℕ) (one other : Option Breach) → until ≡ last_relevant_instant end one → EarliestAmongBy r f end positions one → EarliestAmongBy r f until more other
       → EarliestAmongBy r f end (positions ++ more) (earlier_breach one other)
-  among_joined end until positions more None None reach so_far next = λ j t listed low has. grind (arith, Contains-append_cases positions more j listed, so_far j t, next j t)
+  among_joined end until positions more None None reach so_far next = λ j t listed low has. elim (Contains-append_cases positions more j listed) [
+    | inl old ↦ so_far j t old low has
+    | inr new ↦ next j t new (omega (arith, low, reach)) has
+  ]
   among_joined end until positions more None (Some b) reach so_far next = (
     omega (arith, next.0, reach),
     record {
       among = Contains-append_right positions more b.delivery next.1.among;
       first = next.1.first;
-      least = λ j t listed in_time has. grind (arith, Contains-append_cases positions more j listed, cases_lt end t, so_far j t, next.1.least j t);
+      least = λ j t listed in_time has. elim (Contains-append_cases positions more j listed) [
+        | inl old ↦ elim (cases_lt end t) [
+          | inl late ↦ by_bound b end t j (omega (arith, next.0, reach)) late
+          | inr early ↦ absurd (so_far j t old early has)
+        ]
+        | inr new ↦ next.1.least j t new in_time has
+      ];
     },
   )
   among_joined end until positions more (Some a) None reach so_far next = (
@@ -61,7 +89,13 @@ module _ (r : Recording) (f : ℕ) where
     record {
       among = Contains-append_left positions more a.delivery so_far.1.among;
       first = so_far.1.first;
-      least = λ j t listed in_time has. grind (arith, Contains-append_cases positions more j listed, cases_lt a.instant t, so_far.1.least j t, next j t);
+      least = λ j t listed in_time has. elim (Contains-append_cases positions more j listed) [
+        | inl old ↦ so_far.1.least j t old in_time has
+        | inr new ↦ elim (cases_lt a.instant t) [
+          | inl late ↦ by_bound a a.instant t j (omega arith) late
+          | inr early ↦ absurd (next j t new (omega (arith, early, reach)) has)
+        ]
+      ];
     },
   )
   among_joined end until positions more (Some a) (Some b) reach so_far next = grind (arith, chosen)
@@ -85,19 +119,29 @@ module _ (r : Recording) (f : ℕ) where
     record {
       among = inside b.delivery one.1.among;
       first = one.1.first;
-      least = λ k t listed in_time has. grind (arith, others k listed, cases_lt end t, one.1.least k t);
+      least = λ k t listed in_time has. elim (others k listed) [
+        | inl old ↦ one.1.least k t old in_time has
+        | inr never ↦ elim (cases_lt end t) [
+          | inl late ↦ by_bound b end t k one.0 late
+          | inr early ↦ absurd (never t early has)
+        ]
+      ];
     },
   )
 
   -- if none has an orphan after an instant, the earliest breach by that instant is also that by a later one
   pub among_later : (last end : ℕ) (positions : List ℕ) (found : Option Breach) → last ≤ end → ((k u : ℕ) → Contains positions k → last < u → u ≤ end → HasOrphan r.processes f (instant r.past u) k → ⊥)
       → EarliestAmongBy r f last positions found → EarliestAmongBy r f end positions found
-  among_later last end positions None up later none = λ k t listed low has. grind (arith, cases_lt last t, later k t listed, none k t listed)
+  among_later last end positions None up later none = λ k t listed low has. elim (cases_lt last t) [
+    | inl late ↦ later k t listed late low has
+    | inr early ↦ none k t listed early has
+  ]
   among_later last end positions (Some b) up later one = (omega (arith, one.0, up), one.1)
 
   -- a breach that was found comes by the bound
   pub horizon_within : (end : ℕ) (positions : List ℕ) (found : Option Breach) → EarliestAmongBy r f end positions found → last_relevant_instant end found ≤ end
-  horizon_within end positions found one = grind arith
+  horizon_within end positions None none = omega arith
+  horizon_within end positions (Some b) one = one.0
 
   -- If all other deliveries have no orphan by then, it is the earliest breach of the run.
   pub among_all : (end : ℕ) (positions : List ℕ) (found : Option Breach) → AreLegalEntries r.processes r.past → end ≤ length r.past
@@ -105,7 +149,10 @@ module _ (r : Recording) (f : ℕ) where
       → EarliestAmongBy r f end positions found → EarliestBreachBy r f end 0 (deliveries_in r.past) found
   among_all end positions None formed within others none = λ i k t low high numbered in_time has.
       let some = numbered_some r.processes r.past i k formed numbered in
-      grind (arith, others k some.0 some.1, none k t)
+      elim (others k some.0 some.1) [
+        | inl listed ↦ none k t listed in_time has
+        | inr never ↦ never t in_time has
+      ]
   among_all end positions (Some b) formed within others one =
       let orphan = one.1.first.least.is_orphan in
       let numbered_then = has_number (instant r.past b.instant) b.delivery orphan.det orphan.delivered in
@@ -119,7 +166,13 @@ module _ (r : Recording) (f : ℕ) where
           first = one.1.first;
           least = λ i k t low high is in_time has.
               let some = numbered_some r.processes r.past i k formed is in
-              grind (arith, others k some.0 some.1, cases_lt end t, one.1.least k t);
+              elim (others k some.0 some.1) [
+                | inl listed ↦ one.1.least k t listed in_time has
+                | inr never ↦ elim (cases_lt end t) [
+                  | inl late ↦ by_bound b end t k one.0 late
+                  | inr early ↦ absurd (never t early has)
+                ]
+              ];
         },
       )
 

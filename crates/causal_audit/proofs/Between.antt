@@ -1,5 +1,5 @@
 -- The dependents of a delivery after one more entry, and the instants between two changes.
-use Rattle.causal_audit.proofs.Common.{ℕ, ◌≡◌, ◌≢◌, ◌+◌, inl, inr, Bool, true, false, cond, List, ◌∷◌, length, Some, None, refl, sym, ap, ◌∙◌, ◌<◌, ◌≤◌, [], arith, ◌⊎◌, ◌↔◌, ◌&&◌, not, ◌==◌, nat_cmp, FinSet, contains, insert, remove, eq-eqb, ne_eqb, cases_lt, cond-true, cond-false, nat_tests, Pid, Det, Entry, Crash, Restart, is_down, lane, instant, entry_at, det_at, is_stable, logs, list_has, AreLegalEntries, first_fault, actor, IsEventOf, Reaches, itself, onward, Depends, event_below, reaches_old, depends_restarted, reaches_begins, accepted_forward, delivers_up, HasOrphan, instants_stay, one_more_instant, last_instant, det_then, det_within, instant_length}
+use Rattle.causal_audit.proofs.Common.{ℕ, ◌≡◌, ◌≢◌, ◌+◌, inl, inr, Bool, true, false, cond, List, ◌∷◌, length, Some, None, refl, sym, ap, ◌∙◌, ◌<◌, ◌≤◌, [], arith, ◌⊎◌, ◌↔◌, ◌&&◌, ◌||◌, not, false≢true, subst, ◌==◌, nat_cmp, FinSet, contains, insert, remove, eq-eqb, ne_eqb, cases_lt, cond-true, cond-false, nat_tests, Pid, Det, Entry, Deliver, Crash, Restart, Forget, is_down, lane, instant, entry_at, det_at, is_stable, logs, list_has, AreLegalEntries, first_fault, actor, IsEventOf, Reaches, itself, onward, Depends, event_below, reaches_old, depends_restarted, reaches_begins, accepted_forward, delivers_up, HasOrphan, instants_stay, one_more_instant, last_instant, det_then, det_within, instant_length}
 use Rattle.causal_audit.specs.Inside.DeliveryStates.{AreDependents, IsNextReached, IsDeliveryState}
 use Rattle.causal_audit.proofs.Legal.{sends_up}
 use Rattle.causal_holders.proofs.Lemmas.Sets.{inserted, removed}
@@ -25,20 +25,34 @@ IsNoTurn e past p = (is_down (e ∷ past) p ≡ is_down past p) × (lane (e ∷ 
 
 -- an entry that is not a crash or restart preserves the down processes and the lane of each process
 pub no_turn_stays : (e : Entry) (past : List Entry) → is_transition e ≡ false → (p : ℕ) → IsNoTurn e past p
-no_turn_stays e past h p = grind arith
+no_turn_stays (Crash who) past h p = absurd (false≢true (sym h))
+no_turn_stays (Restart who listed) past h p = absurd (false≢true (sym h))
+no_turn_stays e past h p = (refl, refl)
 
 -- a process keeps its dependences while it does not crash or restart
 pub depends_more : (e : Entry) (past : List Entry) (k p : ℕ) → IsNoTurn e past p → Depends past k p → Depends (e ∷ past) k p
-depends_more e past k p same d = grind (arith, reaches_more e past k d.event d.reached)
+depends_more e past k p same d = record { up = same.0 ∙ d.up; event = d.event; present = subst (IsEventOf (e ∷ past) d.event p) (sym same.1) (inl d.present); reached = reaches_more e past k d.event d.reached }
 
 -- a dependent after the entry was one before, or the entry is its event and is reached
 pub depends_before : (n : ℕ) (e : Entry) (past : List Entry) (k p : ℕ) → AreLegalEntries n (e ∷ past) → IsNoTurn e past p → Depends (e ∷ past) k p → Depends past k p ⊎ ((actor e ≡ Some p) × Reaches (e ∷ past) k (length past))
-depends_before n e past k p formed same d = grind (arith, event_below, reaches_old e past k (accepted_forward n (e ∷ past) formed))
+depends_before n e past k p formed same d = go d.present
+  where
+    go : IsEventOf (e ∷ past) d.event p (lane (e ∷ past) p) → Depends past k p ⊎ ((actor e ≡ Some p) × Reaches (e ∷ past) k (length past))
+    go (inl old) = inl (record {
+      up = sym same.0 ∙ d.up;
+      event = d.event;
+      present = subst (IsEventOf past d.event p) same.1 old;
+      reached = reaches_old e past k (accepted_forward n (e ∷ past) formed) d.event (event_below past d.event p (lane (e ∷ past) p) old) d.reached;
+    })
+    go (inr new) = inr (new.1, subst (Reaches (e ∷ past) k) new.0 d.reached)
 
 module _ (n : ℕ) (e : Entry) (past : List Entry) (k : ℕ) (formed : AreLegalEntries n (e ∷ past)) (s : FinSet nat_cmp) (are : AreDependents past k s) where
   -- an entry that does not crash or restart p and is not a reached event of p
   departures : (p : ℕ) → IsNoTurn e past p → (actor e ≡ Some p → Reaches (e ∷ past) k (length past) → ⊥) → (contains s p ≡ true) ↔ Depends (e ∷ past) k p
-  departures p same none = grind (arith, depends_more, depends_before)
+  departures p same none = (
+    λ h. depends_more e past k p same ((are p).0 h),
+    λ d. elim (depends_before n e past k p formed same d) [ inl old ↦ (are p).1 old | inr new ↦ absurd (none new.0 new.1) ],
+  )
 
   -- an entry that crashes or restarts no process and is not a reached event
   pub same_dependents : ((p : ℕ) → IsNoTurn e past p) → ((p : ℕ) → actor e ≡ Some p → Reaches (e ∷ past) k (length past) → ⊥) → AreDependents (e ∷ past) k s
@@ -77,9 +91,21 @@ module _ (n : ℕ) (x : Entry) (past : List Entry) (k : ℕ) (formed : AreLegalE
 
 -- ---- a quiet entry changes nothing
 
+pub unlisted : (here has held : Bool) → has ≡ false → held ≡ ((here && has) || held)
+unlisted true has held none = sym (ap (λ b. b || held) none)
+unlisted false has held none = refl
+
+pub unforgotten : (here has held : Bool) → has ≡ false → held ≡ (not (here && has) && held)
+unforgotten true has held none = sym (ap (λ b. not b && held) none)
+unforgotten false has held none = refl
+
 -- the logs that contain a determinant that it does not mention
 pub logs_stay : (e : Entry) (past : List Entry) (d : Det) → is_transition e ≡ false → list_has (mentioned_dets e) d ≡ false → (p : ℕ) → logs past p d ≡ logs (e ∷ past) p d
-logs_stay e past d h l p = grind (arith, nat_tests)
+logs_stay (Deliver to send rsn listed) past d h l p = unlisted (to.0 == p) (list_has listed d) (logs past p d) l
+logs_stay (Forget who listed) past d h l p = unforgotten (who.0 == p) (list_has listed d) (logs past p d) l
+logs_stay (Crash who) past d h l p = absurd (false≢true (sym h))
+logs_stay (Restart who listed) past d h l p = absurd (false≢true (sym h))
+logs_stay e past d h l p = refl
 
 -- and whether that determinant is stable
 pub stable_stays : (e : Entry) (past : List Entry) (d : Det) → list_has (mentioned_dets e) d ≡ false → is_stable past d ≡ is_stable (e ∷ past) d

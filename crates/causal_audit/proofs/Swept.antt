@@ -1,11 +1,11 @@
 -- The deliveries that one more entry may newly orphan.
-use Rattle.causal_audit.proofs.Common.{ℕ, zero, suc, ◌≡◌, ◌<◌, inl, inr, true, false, List, [], ◌∷◌, length, Some, None, refl, sym, subst, ◌∙◌, arith, ◌≤◌, Bool, ◌⊎◌, ◌&&◌, ◌==◌, false≢true, cases_Bool, cases_lt, eqb-true, eq-eqb, or_parts, cond-true, cond-false, ne_eqb, nat_tests, Pid, Det, Entry, Send, Deliver, Stable, Crash, Restart, Forget, is_down, lane, is_stable, logs, list_has, det_at, det_of, AreLegalEntries, actor, is_delivery_of, IsEventOf, in_order, by_message, Reaches, itself, onward, Depends, event_below, reaches_old, reaches_newest, ReachesNewest, is_newest, in_lane, through_message, reaches_begins, accepted_forward, count_below, count_below-within, HasOrphan}
+use Rattle.causal_audit.proofs.Common.{ℕ, zero, suc, ◌≡◌, ◌<◌, inl, inr, true, false, List, [], ◌∷◌, length, Option, Some, None, refl, sym, ap, subst, ◌∙◌, arith, ◌≤◌, Bool, ◌⊎◌, ◌&&◌, ◌==◌, not, same_det, false≢true, cases_Bool, cases_lt, eqb-true, eqb_tells, eq-eqb, or_parts, cond-true, cond-false, ne_eqb, nat_tests, Pid, Det, Entry, Send, Deliver, Stable, Crash, Restart, Forget, is_down, lane, is_stable, logs, list_has, det_at, det_of, AreLegalEntries, actor, is_delivery_of, IsEventOf, in_order, by_message, Reaches, itself, onward, Depends, event_below, reaches_old, reaches_newest, ReachesNewest, is_newest, in_lane, through_message, reaches_begins, accepted_forward, count_below, count_below-within, HasOrphan}
 use Rattle.causal_audit.proofs.Between.{reaches_more, IsNoTurn, depends_before}
 use Rattle.causal_audit.specs.Laws.{down_or_holding}
 use Rattle.causal_audit.specs.NoRelease.{may_release}
 use Rattle.causal_audit.specs.NewOrphans.{NewOrphansLaw, OneNewOrphan}
 use Rattle.causal_audit.proofs.Lemmas.OrphansByCounts.{exposed, unexposed, orphan_without}
-use Rattle.causal_audit.proofs.safety_scan.CoverStays.{stable_more, gone_more}
+use Rattle.causal_audit.proofs.safety_scan.CoverStays.{gone_more}
 use Rattle.causal_audit.proofs.Legal.{sends_up}
 use Rattle.causal_trace.proofs.Lemmas.DependenceSteps.{delivers_below}
 
@@ -16,36 +16,60 @@ abbrev pub Known : Type 0 → Type 0
 Known P = P ⊎ (P → ⊥)
 
 pub both_known : {A B : Type 0} → Known A → Known B → Known (A × B)
-both_known a b = grind arith
+both_known (inl a) (inl b) = inl (a, b)
+both_known (inl a) (inr none) = inr (λ both. none both.1)
+both_known (inr none) b = inr (λ both. none both.0)
 
 either_known : {A B : Type 0} → Known A → Known B → Known (A ⊎ B)
-either_known a b = grind arith
+either_known (inl a) b = inl (inl a)
+either_known (inr none) (inl b) = inl (inr b)
+either_known (inr none) (inr neither) = inr (λ some. elim some [ inl a ↦ none a | inr b ↦ neither b ])
 
 -- equivalent propositions are decided alike
 known_as : {A B : Type 0} → Known A → (A → B) → (B → A) → Known B
 known_as k to from = elim k [ inl a ↦ inl (to a) | inr none ↦ inr (λ b. none (from b)) ]
 
 pub known_bool : (a b : Bool) → Known (a ≡ b)
-known_bool a b = grind (arith, nat_tests)
+known_bool true true = inl refl
+known_bool true false = inr (λ same. false≢true (sym same))
+known_bool false true = inr false≢true
+known_bool false false = inl refl
 
 same_known : (m n : ℕ) → Known (m ≡ n)
-same_known m n = grind arith
+same_known m n = elim (eqb_tells m n) [ inl same ↦ inl same.1 | inr apart ↦ inr apart.1 ]
+
+-- whether an event is of a process
+actor_known : (o : Option ℕ) (p : ℕ) → Known (o ≡ Some p)
+actor_known None p = inr (λ is. let x : None ≡ Some p = is in cc)
+actor_known (Some q) p = known_as (same_known q p) (ap (λ n. Some n)) (λ is. let x : Some q ≡ Some p = is in cc)
 
 -- whether an entry is an event of p in this lane
 event_known : (past : List Entry) (i p l : ℕ) → Known (IsEventOf past i p l)
 event_known [] i p l = inr (λ at. at)
-event_known (e ∷ past) i p l = grind (arith, event_known past i p l)
+event_known (e ∷ past) i p l =
+    either_known (event_known past i p l)
+    (known_as (both_known (same_known i (length past)) (both_known (actor_known (actor e) p) (same_known (lane past p) l))) (λ at. (at.0, at.1.0, at.1.1)) (λ at. (at.0, (at.1, at.2))))
 
 -- an entry that is not an event is not reached
 no_event_reached : (e : Entry) (past : List Entry) (k i : ℕ) → actor e ≡ None → ((j : ℕ) → is_delivery_of j e ≡ false) → i ≡ length past → Reaches (e ∷ past) k i → ⊥
-no_event_reached e past k i none quiet is (itself q l at) = grind (arith, event_below)
-no_event_reached e past k i none quiet is (onward {j} r (in_order q l h a b)) = grind (arith, event_below)
-no_event_reached e past k i none quiet is (onward {j} r (by_message h)) = grind (arith, delivers_below)
+no_event_reached e past k i none quiet is (itself q l (inl at)) = omega (arith, event_below past k q l at, is)
+no_event_reached e past k i none quiet is (itself q l (inr at)) = let x : None ≡ Some q = sym none ∙ at.1 in cc
+no_event_reached e past k i none quiet is (onward {j} r (in_order q l h a (inl b))) = omega (arith, event_below past i q l b, is)
+no_event_reached e past k i none quiet is (onward {j} r (in_order q l h a (inr b))) = let x : None ≡ Some q = sym none ∙ b.1 in cc
+no_event_reached e past k i none quiet is (onward {j} r (by_message (inl h))) = omega (arith, delivers_below past i j h, is)
+no_event_reached e past k i none quiet is (onward {j} r (by_message (inr h))) = false≢true (sym (quiet j) ∙ h.1)
 
 -- if a property is decidable for each number below a bound, it is decidable whether some number has it
 pub some_below : (P : ℕ → Type 0) (n : ℕ) → ((j : ℕ) → j < n → Known (P j)) → Known ((j : ℕ) × (j < n) × P j)
 some_below P zero known = inr (λ some. absurd (omega (arith, some.1)))
-some_below P (suc n) known = grind (arith, known n (omega arith), some_below P n (λ j below. known j (omega (arith, below))))
+some_below P (suc n) known = elim (either_known (known n (omega arith)) (some_below P n (λ j below. known j (omega (arith, below))))) [
+  | inl (inl here) ↦ inl (n, omega arith, here)
+  | inl (inr some) ↦ inl (some.0, omega (arith, some.1), some.2)
+  | inr none ↦ inr (λ some. elim (cases_lt some.0 n) [
+    | inl early ↦ none (inr (some.0, early, some.2))
+    | inr late ↦ let same : some.0 ≡ n = omega (arith, late, some.1) in none (inl (subst P same some.2))
+  ])
+]
 
 module _ (n : ℕ) (past : List Entry) (k : ℕ) (before : (j : ℕ) → j < length past → Known (Reaches past k j)) where
   mate_known : (p : ℕ) → Known ((j : ℕ) × (j < length past) × (IsEventOf past j p (lane past p) × Reaches past k j))
@@ -86,8 +110,13 @@ reach_known n (e ∷ past) k i formed below = elim (cases_lt i (length past)) [
 
 -- whether a process depends on a delivery
 pub depends_known : (n : ℕ) (past : List Entry) (k p : ℕ) → AreLegalEntries n past → Known (Depends past k p)
-depends_known n past k p formed =
-    grind (arith, known_bool (is_down past p) false, mate_known n past k (λ j h. reach_known n past k j formed h) p, event_below)
+depends_known n past k p formed = elim (cases_Bool (is_down past p)) [
+  | inl down ↦ inr (λ d. false≢true (sym d.up ∙ down))
+  | inr up ↦ elim (mate_known n past k (λ j h. reach_known n past k j formed h) p) [
+    | inl mate ↦ inl (record { up = up; event = mate.0; present = mate.2.0; reached = mate.2.1 })
+    | inr none ↦ inr (λ d. none (d.event, event_below past d.event p (lane past p) d.present, (d.present, d.reached)))
+  ]
+]
 
 -- ==== the deliveries that one more entry may newly orphan
 
@@ -105,7 +134,8 @@ module _ (n f : ℕ) (e : Entry) (past : List Entry) (k : ℕ) (d : Det) (at : d
 
   -- an orphan that depended on the delivery before the entry
   pub orphan_before : (p : ℕ) → p < n → Depends past k p → is_stable past d ≡ false → count_below n (down_or_holding past d) ≤ f → logs past p d ≡ false → HasOrphan n f past k
-  orphan_before p low depends unstable few without = grind (arith, unexposed, det_before (reaches_begins past k depends.event depends.reached))
+  orphan_before p low depends unstable few without =
+      unexposed n f past k d (det_before (reaches_begins past k depends.event depends.reached)) (record { unstable = unstable; few = few; orphan = p; process = low; depends = depends; without = without })
 
 -- ---- a send
 
@@ -134,7 +164,12 @@ delivered n f past k d to send rsn listed formed at p low depends unstable few w
     let e = Deliver to send rsn listed in
     let fewer = gone_fewer n f e past d refl few in
     let lacked = (or_parts (to.0 == p && list_has listed d) (logs past p d) without).1 in
-    grind (arith, depends_before n e past k p formed (refl, refl) depends, orphan_before n f e past k d at p low, unstable, fewer, lacked)
+    elim (depends_before n e past k p formed (refl, refl) depends) [
+      | inl old ↦ inl (orphan_before n f e past k d at p low old unstable fewer lacked)
+      | inr new ↦
+          let same : p ≡ to.0 = let x : Some to.0 ≡ Some p = new.0 in cc in
+          inr (same, new.1, λ was. orphan_before n f e past k d at p low (subst (Depends past k) (sym same) was) unstable fewer lacked)
+    ]
 
 -- ---- the laws
 
@@ -143,13 +178,31 @@ pub sweep_law : NewOrphansLaw
 sweep_law n f (Send from to ssn) past k d formed at orphaned =
     let e = Send from to ssn in
     let x = exposed n f (e ∷ past) k d at orphaned in
-    let new = reaches_newest e past k x.orphan (length past) (accepted_forward n (e ∷ past) formed) refl in
-    grind (arith, depends_before n e past k x.orphan formed (refl, refl) x.depends, sent_before n past k d from to ssn x.orphan formed (λ _. at), new, orphan_before n f e past k d at x.orphan x.process, x.unstable, x.few, x.without)
+    let was : Depends past k x.orphan = elim (depends_before n e past k x.orphan formed (refl, refl) x.depends) [
+      | inl old ↦ old
+      | inr new ↦ sent_before n past k d from to ssn x.orphan formed (λ _. at) new.0 (reaches_newest e past k x.orphan (length past) (accepted_forward n (e ∷ past) formed) refl new.0 new.1)
+    ] in
+    inl (orphan_before n f e past k d at x.orphan x.process was x.unstable x.few x.without)
 sweep_law n f (Deliver to send rsn listed) past k d formed at orphaned =
     let x = exposed n f (Deliver to send rsn listed ∷ past) k d at orphaned in
-    grind (arith, x.depends, depends_known n past k to.0 formed.0, delivered n f past k d to send rsn listed formed at x.orphan x.process x.depends x.unstable x.few x.without)
-sweep_law n f (Stable det) past k d formed at orphaned = grind (arith, exposed, orphan_before, no_actor, stable_more, cases_Bool (is_stable past d))
-sweep_law n f (Crash who) past k d formed at orphaned = grind (arith, exposed, orphan_before, no_actor, gone_fewer, nat_tests)
+    elim (delivered n f past k d to send rsn listed formed at x.orphan x.process x.depends x.unstable x.few x.without) [
+      | inl old ↦ inl old
+      | inr new ↦ elim (depends_known n past k to.0 formed.0) [
+        | inl was ↦ inl (new.2 was)
+        | inr never ↦ inr (subst (Depends (Deliver to send rsn listed ∷ past) k) new.0 x.depends, never)
+      ]
+    ]
+sweep_law n f (Stable det) past k d formed at orphaned =
+    let e = Stable det in
+    let x = exposed n f (e ∷ past) k d at orphaned in
+    let was = no_actor n e past k x.orphan formed refl (refl, refl) x.depends in
+    inl (orphan_before n f e past k d at x.orphan x.process was (or_parts (same_det d det) (is_stable past d) x.unstable).1 x.few x.without)
+sweep_law n f (Crash who) past k d formed at orphaned =
+    let e = Crash who in
+    let x = exposed n f (e ∷ past) k d at orphaned in
+    let up = or_parts (who.0 == x.orphan) (is_down past x.orphan) x.depends.up in
+    let was = no_actor n e past k x.orphan formed refl (x.depends.up ∙ sym up.1, refl) x.depends in
+    inl (orphan_before n f e past k d at x.orphan x.process was x.unstable (gone_fewer n f e past d refl x.few) (sym (ap (λ b. not b && logs past x.orphan d) up.0) ∙ x.without))
 sweep_law n f (Restart who listed) past k d formed at orphaned = grind (arith, cases_Bool (list_has listed d), exposed, orphan_before, no_actor, count_below-within, nat_tests)
 sweep_law n f (Forget who listed) past k d formed at orphaned = grind (arith, cases_Bool (list_has listed d), exposed, orphan_before, no_actor, count_below-within, nat_tests)
 
@@ -159,4 +212,7 @@ one_new_orphan n f past k d to send rsn listed p formed at orphaned never orphan
     let e = Deliver to send rsn listed in
     let x = exposed n f (e ∷ past) k d at orphaned in
     let o = orphan_without n f (e ∷ past) k d at (down_or_holding (e ∷ past) d) p orphan in
-    grind (arith, never, delivered n f past k d to send rsn listed formed at p orphan.process orphan.depends x.unstable x.few o.1)
+    elim (delivered n f past k d to send rsn listed formed at p orphan.process orphan.depends x.unstable x.few o.1) [
+      | inl old ↦ absurd (never old)
+      | inr new ↦ new.0
+    ]

@@ -1,11 +1,12 @@
 -- The verdict from the first excess and the earliest breach.
-use Rattle.causal_audit.proofs.Common.{ℕ, ◌+◌, ◌<◌, ◌≤◌, length, None, refl, arith, count_below, instant, is_down, deliveries_in, Recording, HasOrphan, IsSafe}
+use Rattle.causal_audit.proofs.Common.{ℕ, ◌+◌, ◌<◌, ◌≤◌, length, ◌≡◌, Option, None, Some, refl, subst, arith, count_below, instant, is_down, deliveries_in, Recording, HasOrphan, IsSafe}
 use Rattle.causal_audit.specs.declared.breach.Breach.{Breach}
 use Rattle.causal_audit.specs.declared.breach.Excess.{Excess}
 use Rattle.causal_audit.specs.declared.verdict.Verdict.TheVariants.{Accept, Exceeded, Orphan}
 use Rattle.causal_audit.specs.Numbers.{IsNumbered}
 use Rattle.causal_audit.specs.Verdicts.{IsVerdict}
-use Rattle.causal_audit.specs.Breaches.{EarliestBreach, EarliestBreachBy, IsEarliestBreach, FirstExcess, IsFirstExcess}
+use Rattle.causal_audit.specs.Breaches.{EarliestBreach, EarliestBreachBy, IsEarliestBreach, FirstExcess, IsFirstExcess, IsHorizon, last_deciding_instant}
+use Rattle.causal_audit.specs.Inside.Among.{last_relevant_instant}
 use Rattle.causal_audit.proofs.Lemmas.NumberLemmas.{has_number}
 use Rattle.causal_audit.proofs.DeliveryNumbers.{numbered_later, numbered_below}
 
@@ -41,6 +42,24 @@ module _ (r : Recording) (f : ℕ) where
 
   safe_before : (t u : ℕ) → NoOrphanBefore t → FewBefore t → u < t → u ≤ length r.past → IsSafe r.processes f (instant r.past u)
   safe_before t u orphans few early within = record { few_down = few u early within; no_orphan = orphans u early within }
+
+  -- the earliest breach is one of all
+  pub found_breach : (x : Option Excess) (b : Option Breach) (found : Breach) → b ≡ Some found → EarliestBreachBy r f (last_deciding_instant (length r.past) x) 0 (deliveries_in r.past) b → IsEarliestBreach r f 0 (deliveries_in r.past) found
+  found_breach x b found is least = (subst (λ o. EarliestBreachBy r f (last_deciding_instant (length r.past) x) 0 (deliveries_in r.past) o) is least).1
+
+  -- no later instant than that of the earliest breach in a first part of the run can decide
+  pub horizon_of : (excess : Option Excess) (first : ℕ) (early : Option Breach) → first ≤ last_deciding_instant (length r.past) excess → EarliestBreachBy r f first 0 (deliveries_in r.past) early
+      → IsHorizon r f excess (last_relevant_instant (last_deciding_instant (length r.past) excess) early)
+  horizon_of excess first None low least found by = by
+  horizon_of excess first (Some b) low least None by =
+      let here = least.1.first.least in
+      absurd (by least.1.number b.delivery b.instant (omega arith) least.1.below_to least.1.numbered (omega arith) (record { crash = _; orphan = b.orphan; may_crash = here.may_crash; is_orphan = here.is_orphan }))
+  horizon_of excess first (Some b) low least (Some other) by = (omega (arith, by.0, least.0, low), by.1)
+
+  -- that instant is within the run
+  pub horizon_within : (end first : ℕ) (early : Option Breach) → first ≤ end → end ≤ length r.past → EarliestBreachBy r f first 0 (deliveries_in r.past) early → last_relevant_instant end early ≤ length r.past
+  horizon_within end first None low within least = within
+  horizon_within end first (Some b) low within least = omega (arith, least.0, low, within)
 
   -- without a breach and an excess the verdict accepts
   pub accepted : EarliestBreach r f 0 (deliveries_in r.past) None → FirstExcess r f None → IsVerdict r f Accept

@@ -3,9 +3,10 @@ ghost use Rattle.std.specs.Prelude.{◌≡◌, ◌≤◌, IfOk, length};
 ghost use Rattle.causal_trace.specs.Limits.{max_entries};
 ghost use Rattle.causal_trace.specs.Past.{deliveries_in};
 ghost use Rattle.causal_audit.specs.Breaches.{FirstExcess, IsHorizon, EarliestBreachBy};
+ghost use Rattle.causal_audit.specs.Searches.{search_scope};
 ghost use Rattle.causal_audit.specs.Verdicts.{IsVerdict};
 
-use crate::breach::{Breach, Excess};
+use crate::breach::{Breach, Excess, last_relevant_instant};
 use crate::clock_audit::decide_verdict;
 use crate::excess::{first_excess_in, last_deciding_instant};
 use crate::index_parts::{EffectIndex, PrefixIndex, TransitionIndex};
@@ -39,8 +40,8 @@ pub fn earliest_breach(
     ensures { IfOk result
         (EarliestBreachBy trace.now.recording f end 0 (deliveries_in trace.now.recording.past)) }
 {
-    let prepared = PreparedRun::of(alloc, trace, f, end)?;
-    prepared.earliest_breach(alloc, trace)
+    let indexed = IndexedRun::of(alloc, trace, f, end)?;
+    breach_of_indexed(alloc, trace, indexed)
 }
 
 /// Returns how many of the first entries, up to the instant `end`, are audited first.
@@ -82,13 +83,69 @@ pub fn index_early(
 {
     let end = last_deciding_instant(trace, excess);
     let first = early_part_len(trace.entries(), end);
-    let prefix = PrefixIndex::of(alloc, trace, f, first)?;
-    let indexed = IndexedRun::from_parts(alloc, trace, transitions, effects, prefix)?;
+    let indexed = index_by(alloc, trace, f, first, transitions, effects)?;
     let early = breach_by_end(alloc, trace, &indexed)?;
-    match early {
-        Some(breach) => Ok((indexed, breach.instant)),
-        None => Ok((indexed, end)),
-    }
+    Ok((indexed, last_relevant_instant(end, &early)))
+}
+
+/// Indexes a run for f up to the instant `end`, given what is indexed of the whole run.
+///
+/// # Errors
+/// `NoMemory` if allocation fails.
+fn index_by(
+    alloc: Global,
+    trace: &Trace,
+    f: u16,
+    end: u32,
+    transitions: TransitionIndex,
+    effects: EffectIndex,
+) -> Result<IndexedRun, NoMemory>
+    requires transitions { transitions ≡ trace.now.recording }
+    requires effects { effects ≡ trace.now.recording }
+    requires within { end ≤ length trace.now.recording.past }
+    ensures { IfOk result (λ indexed. indexed ≡ search_scope trace.now.recording f end) }
+{
+    let prefix = PrefixIndex::of(alloc, trace, f, end)?;
+    IndexedRun::from_parts(alloc, trace, transitions, effects, prefix)
+}
+
+/// Indexes the whole run except for mentions, and its early part as `index_early` does.
+///
+/// # Errors
+/// `NoMemory` if allocation fails.
+fn index_first(
+    alloc: Global,
+    trace: &Trace,
+    f: u16,
+    excess: &Option<Excess>,
+) -> Result<(IndexedRun, u32), NoMemory>
+    requires { FirstExcess trace.now.recording f excess.now }
+    ensures run { IfOk result (λ early. early.0.run ≡ trace.now.recording) }
+    ensures within { IfOk result (λ early. early.1 ≤ length trace.now.recording.past) }
+    ensures decides { IfOk result (λ early. IsHorizon trace.now.recording f excess.now early.1) }
+{
+    let effects = EffectIndex::of(alloc, trace)?;
+    let transitions = TransitionIndex::of(alloc, trace)?;
+    index_early(alloc, trace, f, excess, transitions, effects)
+}
+
+/// Indexes a run for f up to another instant.
+///
+/// # Errors
+/// `NoMemory` if allocation fails.
+fn index_again(
+    alloc: Global,
+    trace: &Trace,
+    f: u16,
+    end: u32,
+    indexed: IndexedRun,
+) -> Result<IndexedRun, NoMemory>
+    requires run { indexed.run ≡ trace.now.recording }
+    requires within { end ≤ length trace.now.recording.past }
+    ensures { IfOk result (λ again. again ≡ search_scope trace.now.recording f end) }
+{
+    let prefix = PrefixIndex::of(alloc, trace, f, end)?;
+    indexed.with_prefix(alloc, trace, prefix)
 }
 
 /// Returns the earliest breach of an indexed run up to its end, as `earliest_breach` does.
@@ -105,8 +162,7 @@ fn breach_of_indexed(
     ensures { IfOk result
         (EarliestBreachBy indexed.run indexed.f indexed.end 0 (deliveries_in indexed.run.past)) }
 {
-    let found = indexed.open_deliveries(alloc, trace, 0, indexed.deliveries())?;
-    let prepared = PreparedRun::from_search(indexed, found)?;
+    let prepared = PreparedRun::of_indexed(alloc, trace, indexed)?;
     prepared.earliest_breach(alloc, trace)
 }
 
@@ -119,11 +175,8 @@ pub fn verdict_of(alloc: Global, trace: &Trace, f: u16) -> Result<Verdict, NoMem
     ensures { IfOk result (IsVerdict trace.now.recording f) }
 {
     let excess = first_excess_in(trace, f);
-    let transitions = TransitionIndex::of(alloc, trace)?;
-    let effects = EffectIndex::of(alloc, trace)?;
-    let (early, end) = index_early(alloc, trace, f, &excess, transitions, effects)?;
-    let prefix = PrefixIndex::of(alloc, trace, f, end)?;
-    let indexed = early.with_prefix(alloc, trace, prefix)?;
+    let (early, end) = index_first(alloc, trace, f, &excess)?;
+    let indexed = index_again(alloc, trace, f, end, early)?;
     let least = breach_of_indexed(alloc, trace, indexed)?;
     Ok(decide_verdict(excess, least))
 }

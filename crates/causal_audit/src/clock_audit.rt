@@ -83,7 +83,6 @@ fn orphan_verdict(breach: Breach) -> Verdict
 
 /// Returns the verdict, given the first excess, and the earliest breach of all deliveries up to the last instant that
 /// can decide.
-#[tactic(auto, using(crate::proofs::VerdictLemmas::orphaned, crate::proofs::VerdictLemmas::few_ever, crate::proofs::VerdictLemmas::few_before))]
 pub fn decide_verdict(excess: Option<Excess>, breach: Option<Breach>) -> Verdict
     ensures { IsDecidedVerdict excess breach result }
 {

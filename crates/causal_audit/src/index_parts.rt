@@ -15,7 +15,7 @@ use std::snapshot::Snapshot;
 /// The crashes and restarts of the whole run. It contains no copy of the trace. The model is the run.
 #[derive(Drop)]
 pub struct TransitionIndex {
-    run: Snapshot<Trace>,
+    pub(crate) run: Snapshot<Trace>,
     pub(crate) transitions: Transitions,
 }
 
@@ -51,7 +51,7 @@ impl TransitionIndex {
 /// It contains no copy of the trace. The model is the run.
 #[derive(Drop)]
 pub struct EffectIndex {
-    run: Snapshot<Trace>,
+    pub(crate) run: Snapshot<Trace>,
     pub(crate) departures: Vec<u32>,
     pub(crate) reached: Vec<Holders>,
 }

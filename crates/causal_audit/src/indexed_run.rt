@@ -50,10 +50,9 @@ impl IndexedRun {
         ensures { IfOk result (λ indexed. indexed ≡ search_scope trace.now.recording f end) }
     {
         let prefix = PrefixIndex::of(alloc, trace, f, end)?;
-        let transitions = TransitionIndex::of(alloc, trace)?;
         let effects = EffectIndex::of(alloc, trace)?;
-        let indexed = IndexedRun::from_parts(alloc, trace, transitions, effects, prefix)?;
-        Ok(indexed)
+        let transitions = TransitionIndex::of(alloc, trace)?;
+        IndexedRun::from_parts(alloc, trace, transitions, effects, prefix)
     }
 
     /// Indexes a trace, given the parts of its index. It adds the positions of the deliveries.
@@ -103,22 +102,17 @@ impl IndexedRun {
         requires same { trace.now.recording ≡ prefix.run }
         ensures { IfOk result (λ indexed. indexed ≡ prefix) }
     {
-        let entries = trace.entries();
-        let positions = positions_of(alloc, &entries[..prefix.end as usize])?;
         let kept = self.index;
-        let index = RunIndex {
+        let transitions = TransitionIndex {
+            run: Snapshot::of(trace),
             transitions: kept.transitions,
-            mentions: prefix.mentions,
         };
-        Ok(IndexedRun {
-            run: prefix.run,
-            index,
+        let effects = EffectIndex {
+            run: Snapshot::of(trace),
             departures: self.departures,
             reached: self.reached,
-            positions,
-            f: prefix.f,
-            end: prefix.end,
-        })
+        };
+        IndexedRun::from_parts(alloc, trace, transitions, effects, prefix)
     }
 
     /// Returns the number of deliveries before the end.

@@ -62,7 +62,6 @@ pub fn instants_agree()
 /// States which deliveries one more entry may newly orphan. A delivery entry: those on which its receiver newly
 /// depends, and the receiver is then their only orphan. A restart: those whose determinants it does not list. A
 /// forgetting: those whose determinants it lists.
-#[tactic(auto, using(crate::proofs::Swept::sweep_law, crate::proofs::Swept::one_new_orphan))]
 pub fn new_orphans_law()
     ensures newly { NewOrphansLaw }
     ensures receiver { OneNewOrphan }

@@ -56,6 +56,22 @@ impl PreparedRun {
         ensures sufficient { IfOk result (AreSufficient trace.now.recording f end) }
     {
         let indexed = IndexedRun::of(alloc, trace, f, end)?;
+        PreparedRun::of_indexed(alloc, trace, indexed)
+    }
+
+    /// Prepares an indexed run by a search over all its deliveries. The trace must be the one that was indexed.
+    ///
+    /// # Errors
+    /// `NoMemory` if allocation fails.
+    pub(crate) fn of_indexed(
+        alloc: Global,
+        trace: &Trace,
+        indexed: IndexedRun,
+    ) -> Result<PreparedRun, NoMemory>
+        requires { trace.now.recording ≡ indexed.run }
+        ensures run { IfOk result (λ prepared. prepared.run ≡ indexed.run) }
+        ensures sufficient { IfOk result (AreSufficient indexed.run indexed.f indexed.end) }
+    {
         let found = indexed.open_deliveries(alloc, trace, 0, indexed.deliveries())?;
         PreparedRun::from_search(indexed, found)
     }

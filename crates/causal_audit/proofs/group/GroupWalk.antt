@@ -1,5 +1,5 @@
 -- A walk over the entries for the deliveries of a group.
-use Rattle.causal_audit.proofs.Common.{ℕ, All, cases_lt, ◌≡◌, ◌+◌, ◌++◌, ◌<◌, inl, inr, true, false, List, [], ◌∷◌, length, Option, Some, None, refl, sym, ap, subst, ◌∙◌, arith, ◌≤◌, ◌⊎◌, Contains, ◌==◌, ◌↔◌, nat_cmp, FinSet, contains, remove, empty, union, difference, contains-empty, contains-union, contains-difference, insert, false≢true, false_from_ne_true, eqb-true, eq-eqb, cases_Bool, Contains-push, Contains-push_cases, Contains-append_left, Contains-get_or, length-map, length-set, get_or-map, get_or-set_same, get_or-set_other, Det, Entry, instant, det_at, list_has, logs, entry_at, message_sent, Recording, AreLegalEntries, IsWellFormed, Depends, HasOrphan, accepted_then, det_then, det_within, instant_length, nat_cmp_total, nat_tests, Pid, Deliver, Crash, Forget, max_entries, set}
+use Rattle.causal_audit.proofs.Common.{ℕ, All, cases_lt, ◌≡◌, ◌+◌, ◌++◌, ◌<◌, inl, inr, true, false, List, [], ◌∷◌, length, Option, Some, None, refl, sym, ap, subst, ◌∙◌, arith, ◌≤◌, ◌⊎◌, Contains, ◌==◌, ◌↔◌, nat_cmp, FinSet, contains, remove, empty, union, difference, contains-empty, contains-union, contains-difference, insert, false≢true, false_from_ne_true, eqb-true, eq-eqb, cases_Bool, Contains-push, Contains-push_cases, Contains-append_left, Contains-get_or, length-map, length-set, get_or-map, get_or-set_same, get_or-set_other, Det, Entry, instant, det_at, list_has, logs, entry_at, message_sent, Recording, AreLegalEntries, IsWellFormed, Depends, HasOrphan, accepted_then, det_then, det_within, instant_length, nat_cmp_total, nat_tests, Pid, Deliver, Crash, Restart, Forget, max_entries, set}
 use Rattle.causal_audit.specs.declared.breach.Breach.{Breach}
 use Rattle.causal_audit.specs.declared.group.copies.DetCopies.{DetCopies}
 use Rattle.causal_audit.specs.declared.group.suspects.WalkStep.{WalkStep}
@@ -13,7 +13,7 @@ use Rattle.causal_audit.specs.Inside.DeliveryStates.{BreachAt}
 use Rattle.causal_audit.specs.Inside.Group.Walk.{AreCopiesOfGroup, AreDetCopies, AreCopiesAfter, copies_at, no_copies, AreHeldBefore, IsLacked, IsSuspect, IsBreachOfPlace, IsWalkStep, position_at, AreStillOpen, HasRow, HaveNoOrphans, IsWalkState, ArePlaces, AreNewlyReached, row, row_of, IsReach, AppliesEntry, IsPlaceAdded, opened_at, RowsAreHeld, IsDeliveredTo, IsHeldBy, CountsEarlier, ArePlacesAt, AreMentionedPlaces, AreMarked}
 use Rattle.causal_audit.specs.Inside.Group.OpenDeliveries.{positions_of, IsDeliveryAt, IsOpenDelivery}
 use Rattle.causal_audit.proofs.AmongLemmas.{among_push, among_wider, among_none}
-use Rattle.causal_audit.proofs.Between.{depends_before, stable_stays}
+use Rattle.causal_audit.proofs.Between.{depends_before, stable_stays, unlisted, unforgotten}
 use Rattle.causal_audit.proofs.Lemmas.OrphansByCounts.{exposed, gone_orphan}
 use Rattle.causal_audit.proofs.Swept.{sweep_law, one_new_orphan}
 use Rattle.causal_audit.proofs.NoOrphanSoFar.{accepted_next, first_breach_is}
@@ -43,7 +43,11 @@ module _ (r : Recording) (candidates : List OpenDelivery) (s : WalkStep) (step :
 
 -- who holds a determinant is unchanged by an entry that is not a crash and does not mention it
 logs_kept : (e : Entry) (past : List Entry) (d : Det) → is_crash e ≡ false → list_has (mentioned_dets e) d ≡ false → (p : ℕ) → logs past p d ≡ logs (e ∷ past) p d
-logs_kept e past d turn silent p = grind (arith, nat_tests)
+logs_kept (Deliver to send rsn listed) past d turn silent p = unlisted (to.0 == p) (list_has listed d) (logs past p d) silent
+logs_kept (Restart who listed) past d turn silent p = unlisted (who.0 == p) (list_has listed d) (logs past p d) silent
+logs_kept (Forget who listed) past d turn silent p = unforgotten (who.0 == p) (list_has listed d) (logs past p d) silent
+logs_kept (Crash who) past d turn silent p = absurd (false≢true (sym turn))
+logs_kept e past d turn silent p = refl
 
 -- an entry does not change them if it is not a crash, and mentions the determinant at most for a process
 -- that logs it

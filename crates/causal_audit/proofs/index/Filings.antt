@@ -169,6 +169,22 @@ mentions_more past dets numbers lists det m at there are =
     kept : (d : Det) (v : ℕ) → Contains (mentions_of numbers lists d) v → Contains (mentions_of numbers (with_added lists m (length past)) d) v
     kept d v listed = rw length-set (keeps_of (number_of (length lists) numbers d) lists m (length past) v there listed)
 
+-- ---- before the first entry
+
+-- empty lists are correct for no entries
+pub mentions_of_none : (delivered : List Det) (lists : List (List ℕ)) → All (λ list. list ≡ []) lists → AreMentions [] delivered lists
+mentions_of_none delivered lists all =
+    record {
+      ascend = empty_ascend lists all;
+      mentioned = λ d v e at. absurd (let x : None ≡ Some e = at in cc);
+      only = λ d v listed. absurd (none_of (number_of (length lists) delivered d) v listed);
+      owned = λ i v d listed. absurd (nothing_in lists all i v listed);
+    }
+  where
+    none_of : (o : Option ℕ) (v : ℕ) → Contains (option_map_or (list_at lists) o []) v → ⊥
+    none_of None v listed = omega (arith, listed.1)
+    none_of (Some m) v listed = nothing_in lists all m v listed
+
 -- ---- one more entry
 
 -- before the determinants of the next entry are added, the lists are correct for the run

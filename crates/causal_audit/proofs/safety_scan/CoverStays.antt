@@ -1,5 +1,5 @@
 -- Until when a process remains down or a holder of a determinant, and the determinant's safety until then.
-use Rattle.causal_audit.proofs.Common.{ℕ, ◌≡◌, ◌+◌, ◌<◌, ◌≤◌, inl, inr, Bool, true, false, List, [], ◌∷◌, length, refl, sym, subst, ◌∙◌, arith, Some, None, ◌||◌, ◌&&◌, ◌==◌, not, ◌↔◌, Contains, cases_lt, false≢true, Det, count_below, count_below-within, members_counted, Entry, instant, is_down, is_stable, logs, list_has, entry_at, instant_length, det_then, accepted_then, nat_cmp_total, nat_cmp, FinSet, contains, difference, contains-difference, union, len, contains-union, AreLegalEntries, delivers_up, nat_tests}
+use Rattle.causal_audit.proofs.Common.{ℕ, ◌≡◌, ◌+◌, ◌<◌, ◌≤◌, inl, inr, Bool, true, false, List, [], ◌∷◌, length, refl, sym, subst, ◌∙◌, arith, Some, None, ◌||◌, ◌&&◌, ◌==◌, not, or_right, same_det, Stable, ◌↔◌, Contains, cases_lt, false≢true, Det, count_below, count_below-within, members_counted, Entry, instant, is_down, is_stable, logs, list_has, entry_at, instant_length, det_then, accepted_then, nat_cmp_total, nat_cmp, FinSet, contains, difference, contains-difference, union, len, contains-union, AreLegalEntries, delivers_up, nat_tests}
 use Rattle.causal_audit.specs.Laws.{down_or_holding}
 use Rattle.causal_audit.specs.Inside.SafetyScan.Scans.{AreWatched, IsAtRiskAt, RulesOut, IsSafetyOf}
 use Rattle.causal_audit.specs.NoRelease.{may_release, NoneReleasedFrom, RemainsSafe, OrphansEnd}
@@ -25,7 +25,8 @@ use Rattle.causal_audit.proofs.Steps.{entry_cases}
 -- ---- a stable determinant remains stable
 
 pub stable_more : (e : Entry) (past : List Entry) (d : Det) → is_stable past d ≡ true → is_stable (e ∷ past) d ≡ true
-stable_more e past d h = grind (arith, nat_tests)
+stable_more (Stable det) past d h = or_right (same_det d det) (is_stable past d) h
+stable_more e past d h = h
 
 -- ---- a process remains down or a holder if none is released
 

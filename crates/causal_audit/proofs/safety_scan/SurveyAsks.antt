@@ -1,5 +1,5 @@
 -- The search for open deliveries, determinant by determinant.
-use Rattle.causal_audit.proofs.Common.{FinSet, nat_cmp, ℕ, ◌≡◌, ◌+◌, ◌<◌, ◌≤◌, inl, inr, List, [], ◌∷◌, ◌++◌, length, Option, None, Some, refl, sym, ap, subst, ◌∙◌, arith, slice_index, Contains, map-append, All-push, Contains-append_left, Contains-append_right, Contains-permutation, IsPermutation, IsPermutation-map, All-permutation, cases_lt, cond-true, cond-false, eq-eqb, ltb-true, ltb-false, Det, Entry, Deliver, deliveries_in, det_at, det_then, instant, instant_length, AreLegalEntries}
+use Rattle.causal_audit.proofs.Common.{FinSet, nat_cmp, ℕ, ◌≡◌, ◌+◌, ◌<◌, ◌≤◌, inl, inr, List, [], ◌∷◌, ◌++◌, length, Option, None, Some, refl, sym, ap, subst, ◌∙◌, arith, slice_index, Contains, map-append, All-push, Contains-append_left, Contains-append_right, Contains-push, Contains-permutation, IsPermutation, IsPermutation-map, All-permutation, cases_lt, cond-true, cond-false, eq-eqb, ltb-true, ltb-false, Det, Entry, Deliver, deliveries_in, det_at, det_then, instant, instant_length, AreLegalEntries}
 use Rattle.std.proofs.lemmas.Bool.{lt-ltb}
 use Rattle.std.proofs.lemmas.List.Elements.{All-append}
 use Rattle.causal_trace.specs.Numbers.{delivered_dets, number_of}
@@ -129,6 +129,10 @@ module _ (scope : SearchScope) (before : List OpenDelivery) (delivery : OpenDeli
   still_told : (k : ℕ) → IsListedOrSafe scope before k → IsListedOrSafe scope (before ++ delivery ∷ []) k
   still_told k (inl among) = inl (subst (λ list. Contains list k) (sym (map-append position before (delivery ∷ []))) (Contains-append_left (positions_of before) (delivery.position ∷ []) k among))
   still_told k (inr none) = inr none
+
+  -- and it is listed
+  pub newly_told : IsListedOrSafe scope (before ++ delivery ∷ []) delivery.position
+  newly_told = inl (subst (λ list. Contains list delivery.position) (sym (map-append position before (delivery ∷ []))) (Contains-push (positions_of before) delivery.position))
 
   pub one_more_listed : IsDeliveryAt scope.run.past delivery.position → IsOpenDelivery scope.run scope.f scope.end delivery → HasMore scope before (before ++ delivery ∷ [])
   one_more_listed made later = record {

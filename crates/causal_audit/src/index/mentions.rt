@@ -65,7 +65,6 @@ fn needs_all_lists(trace: &Trace, end: u32) -> bool {
 
 /// Returns how many of the trace's first deliveries get lists: those before the instant `end`. A search then skips
 /// later deliveries of the same message, at most one for each lane. If that could take long, all deliveries get lists.
-#[tactic(auto, using(crate::proofs::DeliveryNumbers::instants_fewer, crate::proofs::Steps::begins))]
 fn lists_needed(trace: &Trace, end: u32) -> usize
     requires { end ≤ length trace.now.recording.past }
     ensures { deliveries_in (instant trace.now.recording.past end) ≤ result }

@@ -88,7 +88,6 @@ impl OpenDeliverySearch<'_, '_> {
     }
 
     /// Appends the delivery at position k to the open deliveries, unless it is covered throughout.
-    #[tactic(auto, using(crate::proofs::safety_scan::SurveyAsks::no_more, crate::proofs::safety_scan::SurveyAsks::one_more_listed))]
     fn collect_if_open(
         &self,
         at_risk: &AtRiskIntervals,
@@ -133,7 +132,6 @@ impl OpenDeliverySearch<'_, '_> {
     }
 
     /// Checks the newest delivery with a determinant, which is number `newest`, and each older one, given the scan.
-    #[tactic(auto, using(causal_trace::proofs::Lemmas::DeliveryNumbers::found_below, causal_trace::proofs::Lemmas::DeliveryNumbers::number_among, crate::proofs::index::Filings::number_of_found))]
     fn check_sharers(
         &self,
         at_risk: &AtRiskIntervals,

@@ -36,3 +36,9 @@ loop-entry-preserved c = let r = c.args.trace.now.recording in
 
 pub returns : goal.returns
 returns c = grind (arith, length-reverse)
+
+pub new-requires-clause-some : goal.new-requires-clause-some
+new-requires-clause-some c = omega (arith, c.processes-n.ensures.value, c.processes-n.ensures.formed.count.0)
+
+pub new-requires-clause-few : goal.new-requires-clause-few
+new-requires-clause-few c = omega (arith, c.processes-n.ensures.value, c.processes-n.ensures.formed.count.1)

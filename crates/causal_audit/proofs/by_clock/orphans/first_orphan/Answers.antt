@@ -64,3 +64,9 @@ loop-t-preserved c =
       before = up_to_next (λ u. HasOrphan r.processes c.args.f (instant r.past u) c.args.k → ⊥) t c.loop-t.invariant.before
           (breach_after r c.entries-entries.ensures.formed c.args.f c.args.k c.args.det c.requires.delivery (t + 1) (omega (arith, c.loop-t-test.true, c.requires.within)) c.apply_entry.new.self None now c.in_default.ensures);
     }
+
+pub returns : goal.returns
+returns c t within has = c.loop-t.invariant.before t (omega (arith, within, c.loop-t-test.false)) has
+
+pub next-requires : goal.next-requires
+next-requires c = omega (arith, c.loop-t-test.true)

@@ -25,3 +25,9 @@ returns-then-len-from c n past d accepted long at told copied down has =
     let shown : HasExactly holders (λ p. logs past p d) = subst (λ (x : DetCopies). HasExactly x.holders (λ p. logs past p d)) (sym (read c.args.buffers.now.copies.items c.args.place c.from.result c.index-copies.result.now c.from.ensures c.ranges.place.fits c.requires.copies c.index-copies.ensures)) copied.holders in
     let few = (seen n c.args.f past c.args.k c.args.t d long at has).few in
     omega (arith, c.if-len-from.true, c.len.ensures.counted, c.from-2.ensures, ap len c.union-gone.ensures, gone_many n past d accepted c.args.buffers.now.down holders down shown, few)
+
+pub dependents_of-requires : goal.dependents_of-requires
+dependents_of-requires c = omega (arith, ap length c.deref.ensures.value, c.requires.present)
+
+pub index-copies-requires : goal.index-copies-requires
+index-copies-requires c = omega (arith, c.from.ensures, c.ranges.place.fits, c.requires.copies, c.args.buffers.now.copies.ok)

@@ -1,4 +1,4 @@
-use Rattle.causal_audit.proofs.Common.{ℕ, ◌≡◌, ◌∙◌, ◌+◌, ◌<◌, length, sym, subst, arith, instant, is_down, HasOrphan}
+use Rattle.causal_audit.proofs.Common.{ℕ, ◌≡◌, ◌∙◌, ◌+◌, ◌<◌, false≢true, length, sym, subst, arith, instant, is_down, HasOrphan}
 use Rattle.causal_audit.specs.Inside.Among.{EarliestAmongBy}
 use Rattle.causal_audit.specs.Inside.Group.OpenDeliveries.{positions_of}
 use Rattle.causal_audit.specs.Inside.Group.Walk.{HasRow, IsWalkState, IsHeldBy, RowsAreHeld, AreMentionedPlaces, position_at, row}
@@ -9,6 +9,22 @@ use Rattle.causal_audit.proofs.group.GroupWalk.{copied_next, marked_next, sees_e
 use Rattle.causal_audit.proofs.Steps.{entry_read}
 use Rattle.causal_trace.proofs.Lemmas.AtInstants.{next_state}
 use Rattle.causal_audit.proofs.group.walk.walk_group.Goals as goal
+
+pub loop-t-init : goal.loop-t-init
+loop-t-init c = record {
+  from = omega arith;
+  rows = c.requires.rows;
+  followed = c.requires.begun;
+  none = c.requires.none;
+  unresolved = record { places = λ j h. (c.places_of-all.ensures j).0 h; over = λ j low out. absurd (false≢true (sym out ∙ (c.places_of-all.ensures j).1 low)) };
+  passed = record {
+    inside = omega arith;
+    earlier = λ j low.
+        let made = c.requires.deliveries j zero low in
+        let reach = c.requires.begun.told j made.0 low made.1 in
+        (λ none. absurd (omega (arith, none)), λ early. grind (arith, early, reach));
+  };
+}
 
 pub check_step-requires-clause-candidates : goal.check_step-requires-clause-candidates
 check_step-requires-clause-candidates c k delivery low u from within = c.requires.candidates k delivery low u from (omega (arith, within, c.loop-t-test.true))
@@ -75,6 +91,9 @@ loop-t-preserved c =
       passed = c.places_at-own.ensures.passed;
       none = λ j low u within has. subst (EarliestAmongBy r c.args.f (t + 1) (positions_of candidates)) c.in_default.is c.check_step.ensures.found (position_at candidates j) u (among_opened candidates j low) within has;
     }
+
+pub returns-clause-buffers : goal.returns-clause-buffers
+returns-clause-buffers c = record { present = c.loop-t.invariant.rows.reach.present; copies = c.loop-t.invariant.rows.copies }
 
 pub returns-clause-found : goal.returns-clause-found
 returns-clause-found c k t listed within has =

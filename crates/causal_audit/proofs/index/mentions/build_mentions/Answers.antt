@@ -3,6 +3,7 @@ use Rattle.std.specs.List.{flat_map}
 use Rattle.causal_trace.specs.Past.{mentioned_dets}
 use Rattle.causal_audit.specs.Inside.Index.Lists.{AreMentions, AreNumbersOf}
 use Rattle.causal_audit.proofs.index.Capacities.{spare_front}
+use Rattle.causal_audit.proofs.index.Filings.{mentions_of_none}
 use Rattle.causal_audit.proofs.index.Numbered.{next_numbers, numbers_low}
 use Rattle.causal_audit.proofs.index.mentions.build_mentions.Goals as goal
 use Rattle.causal_audit.proofs.index.mentions.build_mentions.Goals.{After-split_at}
@@ -10,6 +11,14 @@ use Rattle.causal_audit.proofs.index.mentions.build_mentions.Goals.{After-split_
 pub allocate_lists-requires-clause-low : goal.allocate_lists-requires-clause-low
 allocate_lists-requires-clause-low c =
     numbers_low c.args.among c.requires.numbered.0 (flat_map mentioned_dets c.args.entries.now) c.args.numbers.now c.requires.numbered.1
+
+pub loop-i-init : goal.loop-i-init
+loop-i-init c = record {
+  many = c.in_ok-builder.ensures.count;
+  spare = c.in_ok-builder.ensures.capacity;
+  kept = λ delivered numbered. mentions_of_none delivered c.in_ok-builder.builder.lists c.in_ok-builder.ensures.empty;
+  left = λ delivered numbered. numbered;
+}
 
 pub note-requires-clause-capacity : goal.note-requires-clause-capacity
 note-requires-clause-capacity c = spare_front c.loop-i.builder c.split_at.result.0.now c.split_at.result.1.now (rw c.split_at.ensures.by_index.0 at c.loop-i.invariant.spare)

@@ -1,8 +1,20 @@
+use Rattle.std.proofs.lemmas.List.{get_or-replicate}
+use Rattle.std.proofs.lemmas.List.Folds.{sum_by-replicate}
 use Rattle.std.proofs.lemmas.List.Sums.{sum_by-set}
-use Rattle.causal_audit.proofs.Common.{◌≡◌, ◌+◌, ◌<◌, ◌∙◌, length, get_or, set, take, subst, sym, arith, length-set, get_or_default}
+use Rattle.causal_audit.proofs.Common.{ℕ, ◌≡◌, ◌+◌, ◌<◌, ◌∙◌, length, get_or, set, take, subst, sym, arith, length-replicate, length-set, get_or_default, replicate}
 use Rattle.causal_audit.specs.Inside.Index.Packed.{AreOccurrences}
 use Rattle.causal_audit.proofs.index.Capacities.{counted_few, one_more_counted}
 use Rattle.causal_audit.proofs.index.mentions.occurrences.Goals as goal
+
+pub loop-number-init : goal.loop-number-init
+loop-number-init c =
+    let many = c.args.count in
+    let zeros : c.in_ok-counts.counts.items ≡ replicate many 0 = c.in_ok-counts.ensures.items_if_clones_equal (λ y h. h) in
+    rw zeros (record {
+      many = length-replicate {A = ℕ} many 0;
+      each = λ m low. get_or-replicate {A = ℕ} many m 0 0 (omega (arith, low, length-replicate {A = ℕ} many 0));
+      total = omega (arith, sum_by-replicate (λ n. n) many 0);
+    })
 
 pub overflow_add-index_mut : goal.overflow_add-index_mut
 overflow_add-index_mut c =

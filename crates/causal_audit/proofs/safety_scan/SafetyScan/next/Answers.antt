@@ -40,3 +40,15 @@ returns-clause-passed c =
     passed_to _ _ _ _ c.entries-entries.ensures.formed.accepted (c.requires (omega (arith, c.if-scan_position-self.false)))
     c.next-mention.ensures.bounds c.next_change-last.ensures.bounds c.next-mention.ensures.none c.next_change-last.ensures.kept
     _ _ refl refl refl (omega arith) (omega (arith, c.next-mention.ensures.bounds, c.next_change-last.ensures.bounds, c.if-last-self.false)) (λ u above under. absurd (omega (arith, above, under)))
+
+pub returns-then-last-self-clause-scan_position : goal.returns-then-last-self-clause-scan_position
+returns-then-last-self-clause-scan_position c early = absurd (omega (arith, early))
+
+pub returns-then-writes_det-clause-scan_position : goal.returns-then-writes_det-clause-scan_position
+returns-then-writes_det-clause-scan_position c early = absurd (omega (arith, early))
+
+pub returns-then-is_safe-clause-scan_position : goal.returns-then-is_safe-clause-scan_position
+returns-then-is_safe-clause-scan_position c early = absurd (omega (arith, early))
+
+pub next_change-last-requires-clause-scan_position : goal.next_change-last-requires-clause-scan_position
+next_change-last-requires-clause-scan_position c = c.requires (omega (arith, c.if-scan_position-self.false))

@@ -1,8 +1,9 @@
 use Rattle.std.proofs.lemmas.Grind.{common_steps}
-use Rattle.std.proofs.lemmas.List.Sums.{sum_by_more}
-use Rattle.causal_audit.proofs.Common.{◌≡◌, ◌+◌, ◌-◌, [], ◌∷◌, ◌++◌, get_or, sym, ap, ◌∙◌, arith, length, take, length-append, take_more, All-nil, All-push, refl}
+use Rattle.std.proofs.lemmas.List.Sums.{sum_by_more, sum_by_more_le}
+use Rattle.std.specs.Prelude.{sum}
+use Rattle.causal_audit.proofs.Common.{◌≡◌, ◌+◌, ◌-◌, [], ◌∷◌, ◌++◌, get_or, sym, ap, ◌∙◌, arith, length, take, length-append, length-map, take_all, take_more, All-nil, All-push, refl}
 use Rattle.causal_audit.specs.declared.index.packed_lists.ListSpan.{ListSpan}
-use Rattle.causal_audit.specs.Inside.Index.Packed.{list_capacities}
+use Rattle.causal_audit.specs.Inside.Index.Packed.{list_capacities, list_in}
 use Rattle.causal_audit.proofs.index.PackedSpans.{none_in, packed_push, capacities_push}
 use Rattle.causal_audit.proofs.index.packed_lists.PackedListsBuilder.with_capacities.Goals as goal
 
@@ -29,3 +30,25 @@ loop-capacity-preserved c =
 
 pub returns-clause-empty : goal.returns-clause-empty
 returns-clause-empty c = grind (arith, none_in)
+
+pub overflow_add-begin : goal.overflow_add-begin
+overflow_add-begin c = omega (arith, c.loop-capacity.invariant.begin, sum_by_more_le (λ n. n) c.args.capacities.now c.loop-capacity.capacity-index 0 c.loop-capacity-test.true, c.requires)
+
+-- all lists are there
+all_there : (c : goal.In_ok-positions) → take c.loop-capacity.capacity-index c.args.capacities.now ≡ c.args.capacities.now
+all_there c = take_all c.loop-capacity.capacity-index c.args.capacities.now c.loop-capacity-test.false
+
+pub invariant_of-result : goal.invariant_of-result
+invariant_of-result c =
+    let positions = c.in_ok-positions.positions in
+    let long : length positions.items ≡ c.loop-capacity.begin = omega (arith, positions.ok, c.in_ok-positions.ensures.len) in
+    (rw long c.loop-capacity.invariant.packed, omega (arith, long, c.loop-capacity.invariant.begin, ap sum (all_there c), c.requires))
+
+pub returns-clause-capacities : goal.returns-clause-capacities
+returns-clause-capacities c =
+    let positions = c.in_ok-positions.positions in
+    let long : length positions.items ≡ c.loop-capacity.begin = omega (arith, positions.ok, c.in_ok-positions.ensures.len) in
+    rw long (c.loop-capacity.invariant.capacities ∙ all_there c)
+
+pub returns-clause-count : goal.returns-clause-count
+returns-clause-count c = omega (arith, length-map c.loop-capacity.spans.items (list_in c.in_ok-positions.positions.items), c.loop-capacity.invariant.count, c.loop-capacity-test.false, c.loop-capacity.auto.capacity-index-end)

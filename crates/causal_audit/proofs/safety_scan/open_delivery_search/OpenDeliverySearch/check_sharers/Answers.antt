@@ -7,6 +7,11 @@ use Rattle.causal_audit.proofs.DeliveryNumbers.{numbered_later}
 use Rattle.causal_audit.proofs.Lemmas.NumberLemmas.{has_number}
 use Rattle.causal_audit.proofs.safety_scan.SurveyAsks.{none_newer, none_older}
 use Rattle.causal_audit.proofs.safety_scan.open_delivery_search.OpenDeliverySearch.check_sharers.Goals as goal
+use Rattle.causal_audit.proofs.safety_scan.open_delivery_search.OpenDeliverySearch.check_sharers.Goals.{In-Some}
+
+-- the number of the next older delivery
+older_is : (c : In-Some) → number_of c.loop-older.number (delivered_dets c.args.self.now.run.past) c.args.det ≡ Some c.in-Some.older
+older_is c = subst (λ (a : SearchScope). number_of c.loop-older.number (delivered_dets a.run.past) c.args.det ≡ Some c.in-Some.older) c.self.view_is (sym c.older_delivery.ensures.value ∙ c.in-Some.is)
 
 pub check_delivery-requires-clause-few : goal.check_delivery-requires-clause-few
 check_delivery-requires-clause-few c =
@@ -35,7 +40,7 @@ loop-older-preserved c =
     let number = c.loop-older.number in
     let older = c.in-Some.older in
     let next = c.in_ok-check_delivery-2.ensures.more in
-    let is : number_of number dets c.args.det ≡ Some older = subst (λ (a : SearchScope). number_of number (delivered_dets a.run.past) c.args.det ≡ Some older) c.self.view_is (sym c.older_delivery.ensures.value ∙ c.in-Some.is) in
+    let is = older_is (goal.at.loop-older-preserved c).In-Some in
     let low : older < number = found_below (number_of number dets c.args.det) number older (number_among number dets c.args.det) is in
     let formed : AreLegalEntries scope.run.processes scope.run.past = subst (λ (a : SearchScope). AreLegalEntries a.run.processes a.run.past) c.self.view_is c.self.invariant.formed.accepted in
     record {
@@ -57,3 +62,18 @@ returns-clause-listed c k early at =
     let none : number_of number (delivered_dets scope.run.past) c.args.det ≡ None =
     subst (λ (a : SearchScope). number_of number (delivered_dets a.run.past) c.args.det ≡ None) c.self.view_is (sym c.older_delivery.ensures.value ∙ c.in_default.is) in
     c.loop-older.invariant.told own.0 k (none_older scope formed own.0 k c.args.det numbered at number none) own.1 numbered at
+
+pub check_delivery-requires-clause-own : goal.check_delivery-requires-clause-own
+check_delivery-requires-clause-own c = number_of_found (delivery_count c.args.self.now) (delivered_dets c.args.self.now.run.past) c.args.det c.args.newest c.requires.newest
+
+pub check_delivery-requires-in-Some-clause-few : goal.check_delivery-requires-in-Some-clause-few
+check_delivery-requires-in-Some-clause-few c =
+    let dets = delivered_dets c.args.self.now.run.past in
+    let low = found_below (number_of c.loop-older.number dets c.args.det) c.loop-older.number c.in-Some.older (number_among c.loop-older.number dets c.args.det) (older_is (goal.at.check_delivery-requires-in-Some-clause-few c).In-Some) in
+    omega (arith, low, c.loop-older.invariant.few)
+
+pub check_delivery-requires-in-Some-clause-own : goal.check_delivery-requires-in-Some-clause-own
+check_delivery-requires-in-Some-clause-own c = number_of_found c.loop-older.number (delivered_dets c.args.self.now.run.past) c.args.det c.in-Some.older (older_is (goal.at.check_delivery-requires-in-Some-clause-own c).In-Some)
+
+pub returns-clause-more : goal.returns-clause-more
+returns-clause-more c = c.loop-older.invariant.more
