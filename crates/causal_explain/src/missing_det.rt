@@ -11,7 +11,6 @@ use std::alloc::Global;
 
 /// Returns the first of these positions, among the first `end` entries, with a delivery after which its receiver's log
 /// lacks the determinant.
-#[tactic(auto, using(causal_trace::proofs::Lemmas::AtInstants::state_at, crate::proofs::MarkLemmas::first_marked))]
 pub(crate) fn first_lacking(
     alloc: Global,
     trace: &Trace,

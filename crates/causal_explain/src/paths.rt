@@ -126,7 +126,6 @@ fn path_step_to(
 }
 
 /// Updates the nearest event of each lane by one more entry.
-#[tactic(auto, using(crate::proofs::WayLemmas::lanes_joined, crate::proofs::WayLemmas::lanes_restarted, crate::proofs::WayLemmas::lanes_still))]
 fn note_reached(lanes: &mut [Option<ReachedEvent>], entry: &Entry, reached: Option<ReachedEvent>)
     requires { length lanes.old ≡ 256 }
     ensures { (past : List Entry) (i : ℕ) → AreForward (entry.now ∷ past) →
