@@ -1,9 +1,12 @@
 //! The first instant at which a run strays from what survives.
-ghost use Rattle.std.specs.Prelude.{IfOk, MatchOption};
-ghost use Rattle.causal_trace.specs.Survivors.{IsFollowed};
+ghost use Rattle.std.specs.Prelude.{◌≡◌, None, IfOk, MatchOption, vec_len};
+ghost use Rattle.causal_trace.specs.Past.{deliveries_in, instant};
+ghost use Rattle.causal_trace.specs.Survivors.{IsFollowed, survives};
 ghost use Rattle.causal_replays.specs.Strays.{IsFirstStray};
+ghost use Rattle.causal_replays.specs.Inside.Copies.{AreSized, IsCopyTable};
+ghost use Rattle.causal_replays.specs.Inside.Rivals.{AreNoted};
 
-use crate::copies::{apply_entry, copied_by, empty_copy_table};
+use crate::copies::{CopyTable, apply_entry, copied_by, empty_copy_table};
 use crate::rivals::note_dets;
 use crate::search::first_two;
 use crate::slots::empty_process_lists;
@@ -25,14 +28,36 @@ pub fn first_stray(alloc: Global, trace: &Trace) -> Result<Option<Stray>, NoMemo
     ensures { IfOk result (λ stray. MatchOption stray
         (IsFollowed trace.now.recording) (IsFirstStray trace.now.recording)) }
 {
-    let recorded = trace.entries();
     let mut copies = empty_copy_table(alloc, trace.deliveries() as usize)?;
     let mut slots = empty_process_lists(alloc)?;
+    stray_in(trace, &mut copies, &mut slots)
+}
+
+/// Returns the first instant at which a run strays, as `first_stray` does, given the copies and the slots before the first
+/// entry.
+///
+/// # Errors
+/// `NoMemory` if an allocation failed.
+fn stray_in(
+    trace: &Trace,
+    copies: &mut CopyTable,
+    slots: &mut Vec<Vec<Option<u32>>>,
+) -> Result<Option<Stray>, NoMemory>
+    requires sized { AreSized (deliveries_in trace.now.recording.past) copies.old }
+    requires count { vec_len slots.old ≡ 256 }
+    requires copied { IsCopyTable trace.now.recording.past
+        (instant trace.now.recording.past 0) copies.old }
+    requires noted { AreNoted trace.now.recording.past copies.old slots.old.items None
+        (survives trace.now.recording.processes (instant trace.now.recording.past 0)) }
+    ensures { IfOk result (λ stray. MatchOption stray
+        (IsFollowed trace.now.recording) (IsFirstStray trace.now.recording)) }
+{
+    let recorded = trace.entries();
     for (t, entry) in recorded.iter().enumerate() {
-        apply_entry(&mut copies, trace, entry)?;
-        if let Some(slot) = note_dets(&mut slots, &copies, trace, copied_by(entry))? {
+        apply_entry(copies, trace, entry)?;
+        if let Some(slot) = note_dets(slots, &*copies, trace, copied_by(entry))? {
             let instant = t as u32 + 1;
-            let (first, second) = first_two(trace, &copies, slot, instant);
+            let (first, second) = first_two(trace, &*copies, slot, instant);
             return Ok(Some(Stray {
                 instant,
                 slot,

@@ -3,7 +3,7 @@ use Rattle.causal_trace.specs.Past.{instant, deliveries_in}
 use Rattle.causal_trace.specs.Survivors.{survives, SlotsAreSingle}
 use Rattle.causal_replays.specs.Inside.Copies.{AreSized, IsCopyTable}
 use Rattle.causal_replays.specs.Inside.Rivals.{AreNoted}
-use Rattle.causal_replays.proofs.replays.first_stray.Given as goal
+use Rattle.causal_replays.proofs.replays.stray_in.Given as goal
 
 -- the copies are those of this instant, all survivors are in their slots, and no slot was shared so far
 abbrev pub invariant-loop-t : goal.invariant-loop-t
