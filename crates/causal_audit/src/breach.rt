@@ -7,7 +7,7 @@ use causal_holders::Holders;
 
 /// The first instant at which a delivery has an orphan, with a crash set and an orphan. Instants count entries: instant
 /// t is the state after the first t entries.
-#[derive(Clone, Copy, PartialEq, Eq)]
+#[derive(Clone, Copy, Debug, PartialEq, Eq)]
 pub struct Breach {
     /// The first instant at which the delivery has an orphan.
     pub instant: u32,
@@ -20,7 +20,7 @@ pub struct Breach {
 }
 
 /// The first instant at which more than f processes are down, with these processes.
-#[derive(Clone, Copy, PartialEq, Eq)]
+#[derive(Clone, Copy, Debug, PartialEq, Eq)]
 pub struct Excess {
     /// The first instant with more than f processes down.
     pub instant: u32,
