@@ -1,2 +1,3 @@
 -- Definitions of private functions; no public contract uses them.
 pub mod Messages
+pub mod Parsed

@@ -1,7 +1,10 @@
 //! The stage after the lines so far, and the transition by one more line.
-ghost use Rattle.std.specs.Prelude.{◌≡◌, ◌≤◌, None, IfErr, IfSome, OnErr, OnOk};
+ghost use Rattle.std.specs.Prelude.{◌≡◌, ℕ, List, ◌≤◌, None, Ok, Err, Result, IfErr, IfNone, IfSome, OnErr, OnOk};
+ghost use Rattle.causal_line.specs.Inside.Parsed.{apply_result};
+ghost use Rattle.causal_line.specs.declared.kind.TextKind.{TextKind};
+ghost use Rattle.causal_line.specs.declared.parsed_line.ParsedLine.{ParsedLine};
 ghost use Rattle.causal_line.specs.Returns.{Returns};
-ghost use Rattle.causal_line.specs.Refusals.{◌at◌, ReturnsTextRefusal, IsContextAt, IsContextOf};
+ghost use Rattle.causal_line.specs.Refusals.{◌at◌, ReturnsTextRefusal, IsContextAt, IsContextOf, IsWithinText};
 ghost use Rattle.causal_line.specs.Stages.{max_text_len, longest_text, open_text, apply_line, advance_stage, IsAppliedEntry, IsRefusedEntry};
 ghost use Rattle.causal_line.specs.Values.{parse_line};
 ghost use Rattle.causal_line.specs.Versions.{version_of};
@@ -59,6 +62,16 @@ fn refusal_without_context(number: u32, kind: TextKind) -> TextRefusal
     TextRefusal::without_context(TextFault { line: number, kind })
 }
 
+// drops the stage; in a function of its own, since each drop makes a proof long
+fn refuse(stage: Stage, number: u32, kind: TextKind) -> TextRefusal
+    ensures line { result.fault.line ≡ number }
+    ensures kind { result.fault.kind ≡ kind }
+    ensures context { result.context ≡ None }
+{
+    let _stage = stage;
+    refusal_without_context(number, kind)
+}
+
 // with the trace of the lines before, and the parsed line
 fn refusal_with_context(
     number: u32,
@@ -78,13 +91,21 @@ fn refusal_with_context(
     }
 }
 
+// drops a parsed line; in a function of its own, since each drop makes a proof long
+fn discard(parsed: Result<ParsedLine, TextKind>) {
+    let _parsed = parsed;
+}
+
 // applies the first line
 fn apply_first_line(alloc: Global, limits: Limits, shape: ParsedLine) -> Result<Stage, TextKind>
     ensures { Returns result (apply_line limits.entries Stage.Opening shape) }
 {
     match shape {
         ParsedLine::Header { version, processes } => open_text(alloc, version, processes),
-        _ => Err(TextKind::Header),
+        _ => {
+            discard(Ok(shape));
+            Err(TextKind::Header)
+        }
     }
 }
 
@@ -176,7 +197,48 @@ fn apply_line(
             Err(kind) => Err(refusal_without_context(number, kind)),
         },
         Stage::Within { version, trace } => apply_later_line(limits, number, version, trace, shape),
-        Stage::Ended { .. } => Err(refusal_without_context(number, TextKind::After)),
+        Stage::Ended { .. } => {
+            discard(Ok(shape));
+            Err(refuse(stage, number, TextKind::After))
+        }
+    }
+}
+
+/// The fault of the next line that does not depend on its content: it follows the end line, or ends beyond the limit.
+#[tactic(auto, using(crate::proofs::Lemmas::Passed::in_limit, crate::proofs::Lemmas::Passed::too_long))]
+fn early_fault(limits: Limits, stage: &Stage, end: usize) -> Option<TextKind>
+    ensures some { IfSome result (λ kind. (line : List ℕ)
+        → advance_stage limits.entries stage.now end line ≡ Err kind) }
+    ensures none { IfNone result ((line : List ℕ) → advance_stage limits.entries stage.now end line
+        ≡ apply_result limits.entries stage.now (parse_line line)) }
+    ensures within { IfNone result (end ≤ max_text_len limits.entries) }
+{
+    if let Stage::Ended { .. } = stage {
+        return Some(TextKind::After);
+    }
+    if end > max_text_len(limits) {
+        return Some(TextKind::Big);
+    }
+    None
+}
+
+// applies a parsed line, or passes on the error of the parser
+fn apply_parsed(
+    alloc: Global,
+    limits: Limits,
+    stage: Stage,
+    number: u32,
+    parsed: Result<ParsedLine, TextKind>,
+) -> Result<Stage, TextRefusal>
+    ensures value { (read : Result ParsedLine TextKind) → Returns parsed read
+        → ReturnsTextRefusal result (apply_result limits.entries stage read at number) }
+    ensures line { IfErr result (λ refused. refused.fault.line ≡ number) }
+    ensures context { IfErr result (λ refused. IfSome refused.context
+        (λ context. IsWithinText stage context.trace.recording × (parsed ≡ Ok context.parsed_line))) }
+{
+    match parsed {
+        Ok(parsed_line) => apply_line(alloc, limits, stage, number, parsed_line),
+        Err(kind) => Err(refuse(stage, number, kind)),
     }
 }
 
@@ -185,7 +247,6 @@ fn apply_line(
 /// # Errors
 /// The first error of the line in the order of [`TextKind`], or `NoMemory` if an allocation failed; with its context
 /// where there is one.
-#[tactic(auto, using(crate::proofs::Lemmas::Passed::followed))]
 pub fn advance_stage(
     alloc: Global,
     limits: Limits,
@@ -201,25 +262,16 @@ pub fn advance_stage(
     ensures few { OnOk result (end ≤ longest_text) }
     ensures context { IfErr result (λ refused. IsContextAt stage line.now refused.context) }
 {
-    if let Stage::Ended { .. } = &stage {
-        return Err(refusal_without_context(number, TextKind::After));
+    match early_fault(limits, &stage, end) {
+        Some(kind) => Err(refuse(stage, number, kind)),
+        None => apply_parsed(alloc, limits, stage, number, parse_line(alloc, line)),
     }
-    let most = max_text_len(limits);
-    if end > most {
-        return Err(refusal_without_context(number, TextKind::Big));
-    }
-    let shape = match parse_line(alloc, line) {
-        Ok(shape) => shape,
-        Err(kind) => return Err(refusal_without_context(number, kind)),
-    };
-    apply_line(alloc, limits, stage, number, shape)
 }
 
 /// Applies the next line, which was parsed before its turn, as by another thread.
 ///
 /// # Errors
 /// Those of [`advance_stage`].
-#[tactic(auto, using(crate::proofs::Lemmas::Passed::too_long))]
 pub fn advance_parsed(
     alloc: Global,
     limits: Limits,
@@ -238,15 +290,12 @@ pub fn advance_parsed(
     ensures context { IfErr result (λ refused. IsContextAt stage line.now refused.context) }
 {
     let _line = line;
-    if let Stage::Ended { .. } = &stage {
-        return Err(refusal_without_context(number, TextKind::After));
-    }
-    if end > max_text_len(limits) {
-        return Err(refusal_without_context(number, TextKind::Big));
-    }
-    match parsed {
-        Ok(parsed_line) => apply_line(alloc, limits, stage, number, parsed_line),
-        Err(kind) => Err(refusal_without_context(number, kind)),
+    match early_fault(limits, &stage, end) {
+        Some(kind) => {
+            discard(parsed);
+            Err(refuse(stage, number, kind))
+        }
+        None => apply_parsed(alloc, limits, stage, number, parsed),
     }
 }
 
