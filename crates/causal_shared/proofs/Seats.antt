@@ -119,7 +119,6 @@ never_full a e = grind arith
 pub not_wrong : {A : Type 0} (a : Result A LockedFault) (item_reply : Result A SharedFault) (r : Result ℕ SharedFault) (first : ℕ) (P : Type 0) → item_reply ≡ shared_result a → r ≡ Ok first → (r ≡ Err Fault.WrongSeat ↔ ¬ P) → (item_reply ≡ Err Fault.WrongSeat ↔ ¬ P)
 not_wrong a item_reply r first P is ok wrong = (λ e. absurd (never_wrong a (sym is ∙ e)), λ no. absurd (let e : ◌≡◌ {A = Result ℕ SharedFault} (Ok first) (Err Fault.WrongSeat) = sym ok ∙ wrong.1 no in cc))
 
--- for an error, the seat's item reply equals the history's item reply
 -- for a restart's result, the seat's item reply equals the history's item reply
 pub heard_again : {B : Type 0} (a : Result Restarted (LockedRefused B)) → seat_restart_reply (map_refusal shared_refusal a) ≡ restart_item_reply a
 heard_again a = grind arith
@@ -135,11 +134,5 @@ pub seat_called : (old new : LockedState) (seat seat' : SeatView) (request : Req
 seat_called old new seat seat' request reply section = grind (arith, section)
 
 -- `WrongSeat` is returned if and only if the seat does not match
-pub seated_ok : {A : Type 0} (x : A) (P : Type 0) → P → (◌≡◌ {A = Result A SharedFault} (Ok x) (Err Fault.WrongSeat) ↔ ¬ P)
-seated_ok x P seated = (λ e. absurd cc, λ no. absurd (no seated))
-
 pub not_seated : {A : Type 0} (P : Type 0) → ¬ P → (◌≡◌ {A = Result A SharedFault} (Err Fault.WrongSeat) (Err Fault.WrongSeat) ↔ ¬ P)
 not_seated P unseated = (λ e. unseated, λ other. refl)
-
--- what follows for the calls of a seat
-pub ruleset seat_calls = (called, never_full, not_wrong, restarts_never_wrong, restarts_never_full, seated_ok, not_seated)

@@ -6,7 +6,7 @@ ghost use Rattle.causal_shared.specs.Finish.{HasSeatHistory, AreAllSeats, IsOwnO
 ghost use Rattle.causal_shared.specs.Inside.FinishChecks.{IsLeastMismatch, HasOpening, entries_before};
 
 use crate::item::Item;
-use crate::same::{same_entry, same_item};
+use crate::same::{same_entries, same_item};
 use crate::seat::Seat;
 use causal_core::runtime::Core;
 use causal_log::Stable;
@@ -24,20 +24,6 @@ pub(crate) fn is_seat_history(history: &[Item], seat: u32, own: &[Item]) -> bool
         }
         match rest {
             [first, others @ ..] if same_item(first, item) => rest = others,
-            _ => return false,
-        }
-    }
-    rest.is_empty()
-}
-
-/// Returns whether the two lists of entries are equal.
-pub(crate) fn same_entries(a: &[Entry], b: &[Entry]) -> bool
-    ensures { IsTrue result ↔ (a.now ≡ b.now) }
-{
-    let mut rest = b;
-    for entry in a {
-        match rest {
-            [first, others @ ..] if same_entry(first, entry) => rest = others,
             _ => return false,
         }
     }

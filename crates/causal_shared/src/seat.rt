@@ -1,6 +1,4 @@
 //! A caller's seat, with its own list of its calls.
-#![tactic(auto, using(crate::proofs::Seats::seat_calls, crate::proofs::Ascents::pending_ascends))]
-
 ghost use Rattle.std.specs.Prelude.{◌≡◌, ◌↔◌, ◌≤◌, ◌<◌, length, ◌-◌, vec_len, IfOk, IfErr, OnOk, OnErr, IsTrue, Option, Some, None};
 ghost use Rattle.std.specs.Option.{option_copied};
 ghost use Rattle.causal_protocol.specs.declared.request.Request.TheVariants as Requests;
@@ -301,6 +299,7 @@ pub(crate) fn snapshot_locked<S: Stable>(
 }
 
 /// Lists the pending messages, with the lock held.
+#[tactic(auto, using(crate::proofs::Ascents::pending_ascends))]
 pub(crate) fn pending_locked<S: Stable>(
     locked: &Locked<S>,
     tag: u64,

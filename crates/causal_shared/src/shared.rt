@@ -323,7 +323,6 @@ fn finish_fault<S: Stable>(
 }
 
 /// Performs `finish` on the value taken out of the lock.
-#[tactic(auto, using(crate::proofs::Totals::finished))]
 pub(crate) fn finish_core<S: Stable>(
     locked: Locked<S>,
     seats: &[Seat],

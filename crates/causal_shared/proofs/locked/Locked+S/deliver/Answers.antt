@@ -5,7 +5,7 @@ use Rattle.causal_protocol.specs.declared.request.Request.TheVariants as Request
 use Rattle.causal_protocol.specs.Steps.{reply_of_delivery}
 use Rattle.causal_shared.specs.History.{history_item}
 use Rattle.causal_shared.specs.Locked.{locked_state}
-use Rattle.causal_shared.proofs.Histories.{shows_delivery}
+use Rattle.causal_shared.proofs.Histories.{count_below, shows_delivery}
 use Rattle.causal_shared.proofs.Answered.{err_answered, is_recorded, keeps_on, ok_answered, tells}
 use Rattle.causal_shared.proofs.locked.Locked+S.deliver.Goals as goal
 
@@ -28,3 +28,6 @@ returns-clause-ok g c = ok_answered _ _ c.deliver-answer.result c.from_core_resu
 
 pub returns-clause-refused : goal.returns-clause-refused
 returns-clause-refused g c = err_answered _ _ c.deliver-answer.result c.from_core_result.result c.from_core_result.ensures c.deliver-answer.ensures.refused
+
+pub append_item-requires-clause-call : goal.append_item-requires-clause-call
+append_item-requires-clause-call g c = count_below _ _ _ _ _ c.args.self.now.is_consistent c.requires.0 c.requires.1 c.requires.2

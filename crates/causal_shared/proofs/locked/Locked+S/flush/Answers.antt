@@ -3,6 +3,7 @@ use Rattle.causal_protocol.specs.declared.request.Request.TheVariants as Request
 use Rattle.causal_protocol.specs.Steps.{reply_of_flush}
 use Rattle.causal_shared.specs.Locked.{locked_state}
 use Rattle.causal_shared.proofs.Answered.{if_err_answered, is_recorded, tells_flush}
+use Rattle.causal_shared.proofs.Histories.{count_below}
 use Rattle.causal_shared.proofs.locked.Locked+S.flush.Goals as goal
 
 pub returns-clause-item : goal.returns-clause-item
@@ -12,3 +13,6 @@ returns-clause-item g c =
 
 pub returns-clause-fault : goal.returns-clause-fault
 returns-clause-fault g c = if_err_answered _ _ _ c.flush-answer.result c.from_flush_result.result c.from_flush_result.ensures (λ e p. p) c.flush-answer.ensures.fault
+
+pub append_item-requires-clause-call : goal.append_item-requires-clause-call
+append_item-requires-clause-call g c = count_below _ _ _ _ _ c.args.self.now.is_consistent c.requires.0 c.requires.1 c.requires.2

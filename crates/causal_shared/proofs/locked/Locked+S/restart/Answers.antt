@@ -4,6 +4,7 @@ use Rattle.causal_protocol.specs.declared.request.Request.TheVariants as Request
 use Rattle.causal_protocol.specs.Steps.{reply_of_restart}
 use Rattle.causal_shared.specs.Locked.{locked_state}
 use Rattle.causal_shared.proofs.Answered.{err_answered, if_err_answered, is_recorded, ok_answered, tells_restart}
+use Rattle.causal_shared.proofs.Histories.{count_below}
 use Rattle.causal_shared.proofs.locked.Locked+S.restart.Goals as goal
 
 pub returns-clause-item : goal.returns-clause-item
@@ -19,3 +20,6 @@ returns-clause-refused g c = err_answered _ _ c.restart-answer.result c.from_res
 
 pub returns-clause-spare : goal.returns-clause-spare
 returns-clause-spare g c = if_err_answered _ _ _ c.restart-answer.result c.from_restart_result.result c.from_restart_result.ensures (λ e p. p) c.restart-answer.ensures.spare
+
+pub append_item-requires-clause-call : goal.append_item-requires-clause-call
+append_item-requires-clause-call g c = count_below _ _ _ _ _ c.args.self.now.is_consistent c.requires.0 c.requires.1 c.requires.2
