@@ -1,5 +1,5 @@
 //! A script's commands, issued in order by one seat.
-ghost use Rattle.std.specs.Prelude.{◌≡◌, ◌≤◌, [], length, drop, IfOk, IfErr, OnOk};
+ghost use Rattle.std.specs.Prelude.{◌≡◌, ◌≤◌, [], length, drop, Err, IfOk, IfErr, IsOk, OnOk};
 ghost use Rattle.std.specs.Vec.Iter.{into_iter_items};
 ghost use Rattle.causal_trace.specs.Judgement.{IsSafeTrace};
 ghost use Rattle.causal_core.specs.CoreView.{core_run};
@@ -15,7 +15,7 @@ use causal_protocol::request::Request;
 use causal_script::{Command, Script};
 use causal_shared::fault::SharedFault;
 use causal_shared::seat::Seat;
-use causal_shared::shared::{Shared, finish};
+use causal_shared::shared::{Finished, Shared, finish};
 use causal_trace::trace::Trace;
 use std::alloc::Global;
 use std::sync::Wait;
@@ -85,6 +85,29 @@ fn issue_all<R: Wait>(
     Ok(())
 }
 
+/// Drops the core. In a function of its own, since each function that drops a core has a long proof.
+pub(crate) fn discard(core: Core<MemStable>) {
+    let _core = core;
+}
+
+/// The core of a finished run, unless a call failed.
+fn core_unless(
+    outcome: Result<(), RunFault>,
+    finished: Finished<MemStable>,
+) -> Result<Core<MemStable>, RunFault>
+    ensures ok { IfOk result (λ core. IsOk outcome × (core_run core ≡ core_run finished.core)) }
+    ensures err { IfErr result (λ fault. outcome ≡ Err fault) }
+{
+    let core = finished.core;
+    match outcome {
+        Ok(()) => Ok(core),
+        Err(fault) => {
+            discard(core);
+            Err(fault)
+        }
+    }
+}
+
 /// Starts these processes for the bound f of a script, issues commands through the shared runtime, with one seat and
 /// stable storage in memory, and returns the core after them.
 pub(crate) fn core_after<R: Wait>(
@@ -111,8 +134,7 @@ pub(crate) fn core_after<R: Wait>(
     let (shared, mut seats) = Shared::open(alloc, core, 1, 0)?;
     let outcome = issue_all(rt, &shared, &mut seats[0], commands, spares);
     let finished = finish(shared, seats)?;
-    outcome?;
-    Ok(finished.core)
+    core_unless(outcome, finished)
 }
 
 /// Runs the commands of a script through the shared runtime, with one seat and stable storage in memory, and returns the

@@ -1,14 +1,19 @@
 //! A script, run by processes of its kind.
-ghost use Rattle.std.specs.Prelude.{◌≡◌, ◌≤◌, ◌<◌, IfOk, IfErr, IfSome};
+ghost use Rattle.std.specs.Prelude.{◌≡◌, ◌≤◌, ◌<◌, length, IfOk, IfErr, IfSome};
 ghost use Rattle.causal_trace.specs.Judgement.{IsSafeTrace};
+ghost use Rattle.causal_protocol.specs.Run.{memories_of};
+ghost use Rattle.causal_core.specs.CoreView.{core_run};
+ghost use Rattle.causal_core.specs.Pendings.{pending_in};
 ghost use Rattle.causal_run.specs.Pending.{IsDeliverCommandAt, IsPendingBefore};
-ghost use Rattle.causal_run.specs.Runs.{IsRunFrom, ExplainsRunFault};
+ghost use Rattle.causal_run.specs.Runs.{spares_in, IsStarted, IsRunFrom, ExplainsRunFault};
 ghost use Rattle.causal_run.specs.ScriptProcesses.{IsStartOf};
 
 use crate::exploration::{by_process, exploration_spares, explore_as};
 use crate::fault::RunFault;
-use crate::script_commands::core_after;
+use crate::script_commands::{core_after, discard};
 use crate::script_process::ScriptProcess;
+use causal_core::Core;
+use causal_log::MemStable;
 use causal_name::{MsgName, Pid};
 use causal_process::Process;
 use causal_protocol::request::{CoreFault, Request};
@@ -63,10 +68,55 @@ pub fn run_script<R: Wait>(
         let me = (place % u32::from(script.n)) as u8;
         later.push(Box::new(alloc, ScriptProcess::new(script, me))?)?;
     }
+    perform_and_explore(rt, alloc, script, boxes, spares, later, seed)
+}
+
+/// Performs the commands of a script with these boxes and spares, and then explores with the later ones, if the script
+/// says so.
+fn perform_and_explore<R: Wait>(
+    rt: &R,
+    alloc: Global,
+    script: &Script,
+    boxes: Vec<Box<dyn Process + Send>>,
+    spares: Vec<Box<dyn Process + Send>>,
+    later: Vec<Box<dyn Process + Send>>,
+    seed: u64,
+) -> Result<Trace, RunFault>
+    requires some { 1 ≤ script.now.n }
+    requires few { script.now.n ≤ 256 }
+    requires boxes { length boxes.items ≡ script.now.n }
+    requires spares { length spares.items ≡ spares_in script.now.commands }
+    ensures run { IfOk result
+        (λ trace. IsRunFrom (IsStarted answers script.now.f boxes.items) script.now.commands
+        script.now.exploration trace.recording) }
+    ensures safe { IfOk result (λ trace. IsSafeTrace trace.recording script.now.f) }
+    ensures refused { IfErr result
+        (ExplainsRunFault (IsStarted answers script.now.f boxes.items) script.now.commands) }
+{
     let mut lists = by_process(alloc, script.n, later)?;
+    let commands = script.commands.as_slice();
     let mut core = core_after(rt, alloc, script, commands, boxes, spares, seed)?;
-    explore_as(alloc, &mut core, script.exploration, lists.as_mut_slice())?;
-    Ok(core.into_trace())
+    match explore_as(alloc, &mut core, script.exploration, lists.as_mut_slice()) {
+        Ok(()) => Ok(core.into_trace()),
+        Err(fault) => {
+            discard(core);
+            Err(RunFault::from(fault))
+        }
+    }
+}
+
+/// What is pending for q in a run that goes no further; None if q is down or no process.
+fn pending_at_end(core: Core<MemStable>, q: Pid) -> Result<Option<Vec<MsgName>>, RunFault>
+    ensures { IfOk result (λ found. IfSome found
+        (λ names. names.items ≡ pending_in (memories_of (core_run core)) q)) }
+{
+    let pending = core.pending(q);
+    discard(core);
+    match pending {
+        Ok(names) => Ok(Some(names)),
+        Err(CoreFault::NoMemory) => Err(RunFault::Memory),
+        Err(_) => Ok(None),
+    }
 }
 
 /// Performs the commands of a script before this line again, and returns the messages that are pending then for the
@@ -104,11 +154,7 @@ pub fn pending_before<R: Wait>(
         }
     }
     let core = core_after(rt, alloc, script, commands, boxes, spares, seed)?;
-    match core.pending(q) {
-        Ok(names) => Ok(Some(names)),
-        Err(CoreFault::NoMemory) => Err(RunFault::Memory),
-        Err(_) => Ok(None),
-    }
+    pending_at_end(core, q)
 }
 
 /// Returns the index of the command on this line, and its receiver, if it is a delivery.
