@@ -1,6 +1,5 @@
 //! What a picture shows, as a list of parts in the order of its text.
 ghost use Rattle.std.specs.Prelude.{◌≡◌, ◌≤◌, ◌+◌, ◌∷◌, [], IfOk, length};
-ghost use Rattle.std.specs.List.{find};
 ghost use Rattle.std.specs.Option.{option_copied};
 ghost use Rattle.causal_trace.specs.State.{entries_of, past_at};
 ghost use Rattle.causal_picture.specs.Writes.{Adds};
@@ -56,23 +55,18 @@ fn ends_line(process: u8, from: u32, mark: &Mark) -> bool
     }
 }
 
-/// The mark that ends the line of a process from position `from` on.
-fn line_end(marks: &[Mark], process: u8, from: u32) -> Option<&Mark>
-    ensures { option_copied result ≡ find (drawn.ends_line process from) marks.now }
-{
-    marks.iter().find(|mark| ends_line(process, from, mark))
-}
-
 /// Where the line of a process from position `from` on ends: at its next crash among the marks of a range.
 fn crash_from(marks: &[Mark], process: u8, from: u32) -> LineEnd
     ensures { result ≡ drawn.crash_from marks.now process from }
 {
-    match line_end(marks, process, from) {
-        Some(mark) => LineEnd::Entry {
-            position: mark.position,
-        },
-        None => LineEnd::Open,
+    for mark in marks {
+        if ends_line(process, from, mark) {
+            return LineEnd::Entry {
+                position: mark.position,
+            };
+        }
     }
+    LineEnd::Open
 }
 
 /// Adds the line of a process, unless it is down where the range begins.

@@ -39,8 +39,9 @@ fn push_title_start(out: &mut String, part: &DrawnPart) -> Result<(), AllocError
     ensures { Adds result (string_bytes out.old) (string_bytes out.new) (pictures.title_of part.now) }
 {
     match *part {
-        DrawnPart::Row { process, .. } => write!(out, "process {process}"),
-        DrawnPart::Up { process, .. } => write!(out, "process {process}"),
+        DrawnPart::Row { process, .. } | DrawnPart::Up { process, .. } => {
+            write!(out, "process {process}")
+        }
         DrawnPart::Event { mark, .. } => {
             let line = line_at(mark.position);
             write!(out, "line {line}")

@@ -1,8 +1,30 @@
 //! The legend below the rows: each glyph with its meaning.
+ghost use Rattle.std.specs.Prelude.{◌≤◌, length};
 ghost use Rattle.causal_picture.specs.Writes.{Extends};
 
 use crate::glyphs::{Glyph, push_glyph};
 use std::alloc::AllocError;
+
+/// A glyph and its meaning.
+type Key = (Glyph, &'static str);
+
+const UPPER_KEYS: [Key; 6] = [
+    (Glyph::OpenDot, "send"),
+    (Glyph::FaintDot, "sent again"),
+    (Glyph::Dot, "delivery"),
+    (Glyph::Cross, "crash"),
+    (Glyph::Ring, "restart"),
+    (Glyph::Square, "stable"),
+];
+
+const LOWER_KEYS: [Key; 6] = [
+    (Glyph::Triangle, "forgetting"),
+    (Glyph::Halo, "chain"),
+    (Glyph::Shade, "crash set"),
+    (Glyph::Diamond, "holder"),
+    (Glyph::OpenDiamond, "orphan"),
+    (Glyph::Band, "in its log"),
+];
 
 /// Appends a glyph and its meaning.
 fn push_key(out: &mut String, x: u64, y: u32, shape: Glyph, meaning: &str) -> Result<(), AllocError>
@@ -15,48 +37,23 @@ fn push_key(out: &mut String, x: u64, y: u32, shape: Glyph, meaning: &str) -> Re
     )
 }
 
-/// Appends the first keys of the upper row.
-fn push_upper_left(out: &mut String, y: u32) -> Result<(), AllocError>
+/// Appends the keys of a row, from left to right.
+fn push_keys(out: &mut String, y: u32, keys: &[Key]) -> Result<(), AllocError>
+    requires { length keys.now ≤ 6 }
     ensures { Extends result out.old out.new }
 {
-    push_key(out, 20, y, Glyph::OpenDot, "send")?;
-    push_key(out, 120, y, Glyph::FaintDot, "sent again")?;
-    push_key(out, 220, y, Glyph::Dot, "delivery")
-}
-
-/// Appends the other keys of the upper row.
-fn push_upper_right(out: &mut String, y: u32) -> Result<(), AllocError>
-    ensures { Extends result out.old out.new }
-{
-    push_key(out, 320, y, Glyph::Cross, "crash")?;
-    push_key(out, 420, y, Glyph::Ring, "restart")?;
-    push_key(out, 520, y, Glyph::Square, "stable")
-}
-
-/// Appends the first keys of the lower row.
-fn push_lower_left(out: &mut String, y: u32) -> Result<(), AllocError>
-    ensures { Extends result out.old out.new }
-{
-    push_key(out, 20, y, Glyph::Triangle, "forgetting")?;
-    push_key(out, 120, y, Glyph::Halo, "chain")?;
-    push_key(out, 220, y, Glyph::Shade, "crash set")
-}
-
-/// Appends the other keys of the lower row.
-fn push_lower_right(out: &mut String, y: u32) -> Result<(), AllocError>
-    ensures { Extends result out.old out.new }
-{
-    push_key(out, 320, y, Glyph::Diamond, "holder")?;
-    push_key(out, 420, y, Glyph::OpenDiamond, "orphan")?;
-    push_key(out, 520, y, Glyph::Band, "in its log")
+    let mut x = 20;
+    for (shape, meaning) in keys {
+        push_key(out, x, y, *shape, meaning)?;
+        x += 100;
+    }
+    Ok(())
 }
 
 /// Appends two rows of glyphs with their meanings.
 pub fn push_legend(out: &mut String, upper: u32, lower: u32) -> Result<(), AllocError>
     ensures { Extends result out.old out.new }
 {
-    push_upper_left(out, upper)?;
-    push_upper_right(out, upper)?;
-    push_lower_left(out, lower)?;
-    push_lower_right(out, lower)
+    push_keys(out, upper, &UPPER_KEYS)?;
+    push_keys(out, lower, &LOWER_KEYS)
 }

@@ -112,8 +112,9 @@ fn push_list(out: &mut String, trace: &Trace, position: u32) -> Result<(), Alloc
     ensures { Extends result out.old out.new }
 {
     match trace.entry(position) {
-        Some(Entry::Deliver { listed, .. }) => push_logged(out, listed.as_slice()),
-        Some(Entry::Restart { listed, .. }) => push_logged(out, listed.as_slice()),
+        Some(Entry::Deliver { listed, .. } | Entry::Restart { listed, .. }) => {
+            push_logged(out, listed.as_slice())
+        }
         _ => Ok(()),
     }
 }
