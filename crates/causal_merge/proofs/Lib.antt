@@ -1,4 +1,6 @@
 pub mod Lemmas
+mod LineLemmas
+mod MapLemmas
 mod Outlines
 pub mod ReadLemmas
 mod SendLemmas

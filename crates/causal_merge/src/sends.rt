@@ -45,7 +45,6 @@ impl Sends {
     }
 
     /// Records the next entry, at this position.
-    #[tactic(auto, using(crate::proofs::SendLemmas::lane_le, crate::proofs::SendLemmas::lane_after))]
     pub(crate) fn note(&mut self, entry: &Entry, position: u32) -> Result<(), TextKind>
         requires { position ≤ max_entries }
         ensures ok { OnOk result ((past : List Entry) → IsSendsOf self.old past →

@@ -1,4 +1,4 @@
-use Rattle.std.proofs.lemmas.Result.{IfOk-weaker}
+use Rattle.std.proofs.lemmas.Result.{IfOk-weaker, err_from_is_err_and}
 use Rattle.causal_merge.proofs.ReadLemmas.{ok_of_reader, err_of_reader}
 use Rattle.causal_merge.proofs.recording_reader.RecordingReader.merge.Goals as goal
 
@@ -11,3 +11,8 @@ pub returns-clause-err : goal.returns-clause-err
 returns-clause-err c =
     rw (← c.self.view_is)
     (err_of_reader c.self.inside.limits.entries c.self.inside.size c.self.inside.files c.in_ok-ordered.ordered _ c.merge_run.result c.in_ok-ordered.ensures.ok c.merge_run.ensures.err)
+
+pub returns-in_err-ordered : goal.returns-in_err-ordered
+returns-in_err-ordered c =
+    let p = err_from_is_err_and c.from_residual.result c.from_residual.ensures.1 in
+    rw (p.1, p.2, ← c.self.view_is) (record { ok = tt; err = λ most text read other. c.in_err-ordered.ensures.err most text read.2 })
