@@ -3,6 +3,7 @@ mod Begun
 mod Canonicals
 mod ChunkLemmas
 mod Feeds
+mod LineSteps
 mod ShapeData
 mod Sizes
 mod Spellings
