@@ -1,12 +1,13 @@
 -- More bytes of a text, part after part.
-use Rattle.std.proofs.Common.{arith, ◌≡◌, ◌≤◌, ◌*◌, ℕ, List, [], ◌++◌, length, take, drop, Result, Ok, Err, Option, subst, append_assoc, append-nil}
+use Rattle.std.proofs.Common.{arith, ◌≡◌, ◌≤◌, ◌*◌, ℕ, List, [], ◌++◌, length, take, drop, Result, Ok, Err, Option, Some, None, subst, append_assoc, append-nil}
 use Rattle.std.specs.Prelude.{IfOk, IfErr, IfSome, max}
-use Rattle.std.specs.Io.KnownBytes.{Consumes, Keeps}
+use Rattle.std.specs.Io.KnownBytes.{Consumes, IsAtEnd, Keeps}
 use Rattle.std.proofs.Math.Seq.{take-append_seam}
 use Rattle.std.proofs.lemmas.List.{take-append-drop}
 use Rattle.std.proofs.KnownBytes.{Consumes-kept, Consumes-nil, Consumes-trans}
 use Rattle.causal_line.specs.declared.text_refusal.TextRefusal.{TextRefusal}
-use Rattle.causal_text.specs.FaultContexts.{IsTrueRefusalAlways}
+use Rattle.causal_text.specs.FaultContexts.{ExplainsReadErrorWithin, IsTrueRefusalAlways}
+use Rattle.causal_text.specs.declared.context_reading.ReadError.TheVariants.{Source}
 use Rattle.causal_text.specs.PushReaders.{PushReaderState, HasReceived}
 use Rattle.causal_text.specs.Streams.{StopsWithin, max_piece}
 use Rattle.causal_reading.specs.Reads.{max_read, shared_read}
@@ -64,6 +65,21 @@ failure_stops most size old mid new read reader p q s = piece_stops most size ol
 -- a property of all continuations of the bytes read is one of the source's bytes
 pub going_on : (old mid new : Option (List ℕ)) (read piece : List ℕ) (P : List ℕ → Type 0) → Consumes old mid read → Consumes mid new piece → ((more : List ℕ) → P ((read ++ piece) ++ more)) → IfSome old P
 going_on old mid new read piece P before last p = grind (arith, append_assoc read piece)
+
+-- a property of the bytes read is one of the source's bytes, if none is left
+pub at_its_end : (old new : Option (List ℕ)) (read : List ℕ) (P : List ℕ → Type 0) → Consumes old new read → IsAtEnd new → P read → IfSome old P
+at_its_end None new read P p end h = tt
+at_its_end (Some bytes) None read P p end h = absurd p
+at_its_end (Some bytes) (Some rest) read P p end h = rw (p, end, append-nil) h
+
+-- a read of no bytes consumes none
+pub none_more : (old mid new : Option (List ℕ)) (read buffer : List ℕ) (n : ℕ) → Consumes old mid read → Consumes mid new (take n buffer) → n ≡ 0 → Consumes old new read
+none_more old mid new read buffer n p q none = rw append-nil at (Consumes-trans old mid new read [] p (subst (λ (m : ℕ). Consumes mid new (take m buffer)) none q))
+
+-- an error of the source needs no explanation
+pub source_error : (most : ℕ) (old : Option (List ℕ)) → IfSome old (λ text. ExplainsReadErrorWithin most text Source)
+source_error most None = tt
+source_error most (Some bytes) = tt
 
 -- ---- a text in memory
 

@@ -29,3 +29,15 @@ returns-in-Err-finish-clause-err g c =
     let i = c.loop-left.invariant in
     let none : length c.loop-left.left.now ≡ 0 = search rules in
     rw (c.into_fault-in-Err-finish.ensures, i.1, nil_from_length _ none, append-nil i.0) (λ other. (c.in-Err-finish.ensures.err default_entries i.0 i.2).first other)
+
+pub returns-in-Err-finish-clause-memory : goal.returns-in-Err-finish-clause-memory
+returns-in-Err-finish-clause-memory g c =
+    let i = c.loop-left.invariant in
+    let none : length c.loop-left.left.now ≡ 0 = search rules in
+    rw (c.into_fault-in-Err-finish.ensures, i.1, nil_from_length _ none, append-nil i.0) (λ wants. (c.in-Err-finish.ensures.err default_entries i.0 i.2).memory wants)
+
+pub returns-in-Ok-finish : goal.returns-in-Ok-finish
+returns-in-Ok-finish g c =
+    let i = c.loop-left.invariant in
+    let none : length c.loop-left.left.now ≡ 0 = search rules in
+    record { ok = rw (i.1, nil_from_length _ none, append-nil i.0) (c.in-Ok-finish.ensures.ok default_entries i.0 i.2); err = tt; memory = tt }
