@@ -27,7 +27,7 @@ impl fmt::Display for MergeKind {
 
 /// Why recorder files cannot be merged: a line of the input, counted from 1, what is wrong with it, and the values that
 /// explain that.
-#[derive(Clone, Copy, Debug, Error)]
+#[derive(Clone, Copy, Debug, PartialEq, Eq, Error)]
 #[error("line {line}: {kind}")]
 pub struct MergeFault {
     pub line: u32,

@@ -14,7 +14,7 @@ use causal_trace::entry::{Entry, is_det};
 use causal_trace::trace::Trace;
 
 /// The values that explain an error of an event.
-#[derive(Clone, Copy, Debug)]
+#[derive(Clone, Copy, Debug, PartialEq, Eq)]
 pub enum MergeDetail {
     /// The number `given` of a send, and the next one of its sender's present lane (incarnation).
     Ssn { process: Pid, given: u32, next: u32 },
