@@ -128,7 +128,7 @@ impl<S: Stable> Core<S> {
             Ok(dets) => dets,
             Err(fault) => return Err(FlushFault { fault, done: 0 }),
         };
-        self.gather_cache = None;
+        drop(self.gather_cache.take());
         flush_all(&mut self.run_data, &mut self.store, p, dets.as_slice())
     }
 }

@@ -27,7 +27,7 @@ impl<S: Stable> Core<S> {
         ensures boxes { SameAnswers answers (core_state self.old).slots
             (core_state self.new).slots }
     {
-        self.gather_cache = None;
+        drop(self.gather_cache.take());
         self.run_data.forget(self.alloc, p)
     }
 }

@@ -42,6 +42,6 @@ pub(crate) fn invalidate_except(gather_cache: &mut Option<GatherCache>, p: Pid)
         ChangesOnlyMemoryOf p before after → IsGatherCache after gather_cache.new }
 {
     if gather_cache.is_some() && cached_log(gather_cache, p).is_none() {
-        *gather_cache = None;
+        drop(gather_cache.take());
     }
 }

@@ -5,6 +5,8 @@
 //! Start at [`Core`]: `Core::start` takes processes in boxes and a store; then come `deliver`, `crash`, `restart`,
 //! `replay`, `flush` and `forget`. `Core::pending` and `Core::naming` return what may be delivered next; `Core::trace`
 //! returns the recorded trace, and its contract states the safety.
+// A large value that a path no longer needs is passed to `drop`: a proof then reads one call in place of the drops of its
+// fields.
 #![tactic(auto)]
 
 /// The boxes of the up processes, in slots.

@@ -65,10 +65,13 @@ impl<S: Stable> Core<S> {
                 put_box(&mut self.slots, usize::from(p.0), spare);
                 Ok(self.run_data.finish_restart(p, gathered, sends))
             }
-            Err(_) => Err(Refused {
-                fault: CoreFault::NoMemory,
-                spare,
-            }),
+            Err(_) => {
+                drop(gathered);
+                Err(Refused {
+                    fault: CoreFault::NoMemory,
+                    spare,
+                })
+            }
         }
     }
 }

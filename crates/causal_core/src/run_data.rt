@@ -100,7 +100,7 @@ fn drop_memory(process_memories: &mut Vec<Option<ProcessMemory>>, p: usize)
     ensures bodies { bodies_in process_memories.new.items
         ≡ slice_set (bodies_in process_memories.old.items) p [] }
 {
-    process_memories[p] = None;
+    drop(process_memories[p].take());
 }
 
 /// Marks a determinant as stable in p's log.
@@ -129,7 +129,14 @@ impl RunData {
     pub(crate) fn into_trace(self) -> Trace
         ensures { result.recording ≡ self.run.recording }
     {
-        let RunData { trace, .. } = self;
+        let RunData {
+            trace,
+            writers,
+            process_memories,
+            ..
+        } = self;
+        drop(writers);
+        drop(process_memories);
         trace
     }
 
@@ -299,7 +306,10 @@ impl RunData {
         let logged = grown.listed.as_slice().len() as u32 + 1;
         match self.reserve_delivery(q, logged) {
             Ok(()) => Ok(grown),
-            Err(_) => Err(CoreFault::NoMemory),
+            Err(_) => {
+                drop(grown);
+                Err(CoreFault::NoMemory)
+            }
         }
     }
 
@@ -398,7 +408,9 @@ impl RunData {
         ensures { IfOk result (λ dets. dets.items ≡ restart_list self.now.run p) }
     {
         let log = self.gather(alloc, p, store)?;
-        log.dets(alloc)
+        let dets = log.dets(alloc);
+        drop(log);
+        dets
     }
 
     /// Records that a flush of p wrote a determinant.

@@ -31,6 +31,7 @@ use causal_protocol::request::{CoreFault, Restarted};
 use causal_trace::entry::{Dets, Entry};
 use causal_trace::limits::DEFAULT_RESTARTS;
 use std::alloc::Global;
+use std::mem;
 
 /// Stores the memory of process p.
 #[tactic(auto, using(crate::proofs::Rules::of_maps))]
@@ -45,7 +46,7 @@ pub(crate) fn put_memory(
     ensures bodies { bodies_in process_memories.new.items
         ≡ slice_set (bodies_in process_memories.old.items) p (bodies_of process_memory) }
 {
-    process_memories[p] = Some(process_memory);
+    drop(process_memories[p].replace(process_memory));
 }
 
 /// Returns the refusal, or `NoMemory` if there is none.
@@ -110,7 +111,7 @@ impl RunData {
         let mut log = self.gather(alloc, p, store)?;
         // A copy of a sorted log is sorted. If allocation fails here, each copy must be sorted.
         let _ = log.sort();
-        *gather_cache = cache_gathered(&log, p);
+        drop(mem::replace(gather_cache, cache_gathered(&log, p)));
         Ok(log)
     }
 
@@ -147,7 +148,10 @@ impl RunData {
         ensures gathered { IfOk result (IsRestartPlan self.old.run.faults log.map) }
         ensures room { OnOk result (9 ≤ self.new.spare) }
     {
-        self.trace.reserve(9)?;
+        if self.trace.reserve(9).is_err() {
+            drop(log);
+            return Err(NoMemory);
+        }
         restart_plan_with(alloc, self.faults, log)
     }
 
@@ -168,6 +172,7 @@ impl RunData {
         ensures room { OnOk result (9 ≤ self.new.spare) }
     {
         if let Some(fault) = self.listing_fault(p, log.len() as usize) {
+            drop(log);
             return Err(fault);
         }
         match self.plan_restart(alloc, log) {

@@ -69,8 +69,15 @@ impl RunData {
         ensures bodies { IfOk result (λ run_data. run_data.bodies ≡ replicate n []) }
     {
         let process_memories = new_process_memories(alloc, n, seed)?;
+        let trace = match new_trace(alloc, n) {
+            Ok(trace) => trace,
+            Err(fault) => {
+                drop(process_memories);
+                return Err(fault);
+            }
+        };
         Ok(RunData {
-            trace: new_trace(alloc, n)?,
+            trace,
             faults: f,
             writers: Vec::new(alloc),
             process_memories: process_memories,

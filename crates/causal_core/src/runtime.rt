@@ -69,9 +69,15 @@ impl<S: Stable> Core<S> {
         ensures followed { IsFollowed result.recording }
     {
         let Core {
-            run_data: run_data,
+            run_data,
+            slots,
+            store,
+            gather_cache,
             ..
         } = self;
+        drop(slots);
+        drop(store);
+        drop(gather_cache);
         run_data.into_trace()
     }
 
@@ -143,7 +149,10 @@ impl<S: Stable> Core<S> {
                 invalidate_except(&mut self.gather_cache, q);
                 Ok(self.run_data.finish(q, grown, sends))
             }
-            Err(_) => Err(CoreFault::NoMemory),
+            Err(_) => {
+                drop(grown);
+                Err(CoreFault::NoMemory)
+            }
         }
     }
 

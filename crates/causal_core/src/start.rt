@@ -42,7 +42,13 @@ fn begin(
 {
     let p = Pid(slots.len() as u8);
     let fresh = run_data.prepare_begin(alloc, p)?;
-    let sends = begin_box(&mut process, alloc)?;
+    let sends = match begin_box(&mut process, alloc) {
+        Ok(sends) => sends,
+        Err(fault) => {
+            drop(fresh);
+            return Err(fault);
+        }
+    };
     run_data.record_begin(p, fresh, sends);
     slots.push(Some(process))?;
     Ok(())
@@ -62,7 +68,10 @@ fn begin_all(
 {
     let mut slots = Vec::new(alloc);
     for process in boxes {
-        begin(alloc, run_data, &mut slots, process)?;
+        if let Err(fault) = begin(alloc, run_data, &mut slots, process) {
+            drop(slots);
+            return Err(fault);
+        }
     }
     Ok(slots)
 }
@@ -113,16 +122,20 @@ impl<S: Stable> Core<S> {
     {
         let n = boxes.len();
         if n == 0 || n > 256 {
+            drop(boxes);
             return Err(StartFault::Processes);
         }
         let stored = store.len();
         if stored > 0 {
+            drop(boxes);
             return Err(StartFault::StoreNotEmpty);
         }
         let Ok(mut run_data) = RunData::open(alloc, n as u16, f, seed) else {
+            drop(boxes);
             return Err(StartFault::NoMemory);
         };
         let Ok(slots) = begin_all(alloc, &mut run_data, boxes) else {
+            drop(run_data);
             return Err(StartFault::NoMemory);
         };
         Ok(Core {

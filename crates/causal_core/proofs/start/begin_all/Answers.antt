@@ -15,5 +15,5 @@ begin-requires g c =
 
 pub loop-process-preserved : goal.loop-process-preserved
 loop-process-preserved g c =
-    more_begun _ (length c.args.boxes.items) c.args.run_data.now.run.faults c.loop-process.yielded c.loop-process.slots.items _ c.loop-process.run_data _ _ c.loop-process.invariant c.in_ok-begin.ensures
+    more_begun _ (length c.args.boxes.items) c.args.run_data.now.run.faults c.loop-process.yielded c.loop-process.slots.items _ c.loop-process.run_data _ _ c.loop-process.invariant c.in_default.ensures
     (YieldsList-turn (YieldsList-from_vec c.args.boxes.items (cc) (grind (arith, common_steps))) c.loop-process.yielded c.loop-process.process-iterator c.loop-process.yielded_by c.next.result c.next.new.self c.in-Some.process c.in-Some.is c.next.ensures.steps).0
