@@ -40,7 +40,7 @@ fn step_with_body(
     };
     let sends = step_box(slots, q, alloc, &input);
     match input {
-        Input::Message { body: lent, .. } => drop(mem::replace(body, lent)),
+        Input::Message { body: lent, .. } => *body = lent,
         Input::Begin => unreachable!(),
     }
     sends
