@@ -1,8 +1,8 @@
 -- Ascending items are recognised as those that messages carry, stay so as determinants are learned, and are so again
 -- once determinants that have changed are looked up.
-use Rattle.std.proofs.Common.{inl, inr, ℕ, zero, suc, ◌+◌, ◌-◌, ◌<◌, length, take, drop, get_or, slice_get, IfSome, ◌≡◌, ◌∙◌, ◌≤◌, ◌||◌, true, false, nat_cmp, List, [], ◌∷◌, ◌++◌, map, filter, Option, Some, None, is_some, unwrap_or, true≢false, refl, sym, ap, arith}
+use Rattle.std.proofs.Common.{Bool, inl, inr, ℕ, zero, suc, ◌+◌, ◌-◌, ◌<◌, length, take, drop, get_or, slice_get, IfSome, ◌≡◌, ◌∙◌, ◌≤◌, ◌||◌, true, false, nat_cmp, List, [], ◌∷◌, ◌++◌, map, filter, Option, Some, None, is_some, unwrap_or, cond, true≢false, refl, sym, ap, arith}
 use Rattle.std.proofs.lemmas.Simd.{map-map}
-use Rattle.std.proofs.lemmas.Bool.{and_from, and_parts, or_cases, or_right, or_parts}
+use Rattle.std.proofs.lemmas.Bool.{and_from, and_parts, false_from_ne_true, or_cases, or_right, or_parts}
 use Rattle.std.proofs.lemmas.Bool.Decides.{nat_tests}
 use Rattle.std.proofs.lemmas.List.{append-nil, append_assoc, map-id, drop-drop, drop_more, get_or-drop, length-drop, length-take-le, map-append, take-append-drop, take_all, drop_all}
 use Rattle.std.proofs.lemmas.Option.{slice_get-get_or, slice_get_within}
@@ -25,12 +25,13 @@ use Rattle.causal_log.specs.Knowledge.{unknown, union_with, is_carried, knowledg
 use Rattle.causal_log.specs.Logs.{LogMap, known_of, after_learn, after_absorb, item_of, batch_items, dets_of, names_det, after_learn_all, after_mark}
 use Rattle.causal_log.specs.Inside.BatchCache.{known_of_item, item_entries, carried_knowledge, with_carried, LearnsItem, CarriesBut, CacheIsRight, CacheIsRightBut, with_knowledge}
 use Rattle.causal_log.specs.Inside.Merges.{AreDisjoint, IsMergeState, are_known_to_hold}
-use Rattle.causal_log.proofs.EntryLemmas.{below, get_log, same_log, own_entries, not_itself, not_after}
+use Rattle.causal_log.proofs.EntryLemmas.{below, find_lookup, same_log, own_entries, not_itself, not_after}
+use Rattle.causal_log.proofs.KnownLemmas.{joined_nothing}
 use Rattle.causal_log.proofs.TableLemmas.{lookup_missing}
 use Rattle.causal_log.proofs.Lemmas.Ascents.{ascending_tail, ascending_skip, first_before, filter_ascends}
 use Rattle.causal_log.proofs.Lemmas.ChosenLemmas.{chosen_ascend}
 use Rattle.causal_log.proofs.Lemmas.KnowledgeGrows.{get_learned, told_keys}
-use Rattle.causal_log.proofs.Lemmas.Searches.{any_map, before_apart, find_kept, shown, same_turned}
+use Rattle.causal_log.proofs.Lemmas.Searches.{any_map, before_apart, find_kept, kept_if, shown, same_turned}
 use Rattle.causal_log.specs.declared.cached_batch.CachedBatch.{CachedBatch}
 use Rattle.causal_log.proofs.Lemmas.LogLists.{get_marked}
 
@@ -60,10 +61,22 @@ carried_unmarked f known h = grind (arith, and_parts)
 module _ (f : ℕ) where
   kept_entries : (es : List (Det × Known)) → item_entries (map item_of (filter (λ e. is_carried f e.1) es)) ≡ filter (λ e. is_carried f e.1) es
   kept_entries [] = refl
-  kept_entries (e ∷ es) = grind (arith, kept_entries es, carried_unmarked)
+  kept_entries (e ∷ es) =
+      let rest = filter (λ x. is_carried f x.1) es in
+      elim (is_carried f e.1) as (λ b. is_carried f e.1 ≡ b → item_entries (map item_of (cond b (e ∷ rest) rest)) ≡ cond b (e ∷ rest) rest) [
+        | true ↦ λ carries i. (e.0, carried_unmarked f e.1 carries i) ∷ kept_entries es i
+        | false ↦ λ closed. kept_entries es
+      ]
+      refl
 
   found_kept : (log : LogMap) (q : Det) → lookup (same_det q) (filter (λ e. is_carried f e.1) (fin.entries log)) ≡ carried_knowledge f (fin.get log q)
-  found_kept log q = grind (arith, get_log (filter (λ e. is_carried f e.1) (fin.entries log)) q, fin.get-from_entries dets_total (filter (λ e. is_carried f e.1) (fin.entries log)) q, find_kept (is_carried f) q (fin.entries log) (shown _ (fin.entries_sorted log)), fin.get-entries log q)
+  found_kept log q =
+      sym (find_lookup (filter (λ e. is_carried f e.1) (fin.entries log)) q) ∙ find_kept (is_carried f) q (fin.entries log) (shown _ (fin.entries_sorted log))
+      ∙ ap (kept_if (is_carried f)) (sym (fin.get-entries log q)) ∙ same_kept (fin.get log q)
+    where
+      same_kept : (o : Option Known) → kept_if (is_carried f) o ≡ carried_knowledge f o
+      same_kept None = refl
+      same_kept (Some known) = refl
 
   -- a look-up in the items that messages carry finds each of them, and no other
   pub found_chosen : (log : LogMap) (q : Det) → lookup (same_det q) (item_entries (batch_items f log)) ≡ carried_knowledge f (fin.get log q)
@@ -82,12 +95,16 @@ module _ (f : ℕ) where
 pub glue : (xs : List Det) (d : Det) (ys : List Det) → is_ascending (xs ++ d ∷ []) ≡ true → is_ascending (d ∷ ys) ≡ true → is_ascending (xs ++ d ∷ ys) ≡ true
 glue [] d ys h k = k
 glue (x ∷ []) d ys h k = and_from (is_before x d) (is_ascending (d ∷ ys)) (and_parts (is_before x d) true h).0 k
-glue (x ∷ y ∷ xs) d ys h k = grind (arith, glue (y ∷ xs) d ys, and_parts, and_from)
+glue (x ∷ y ∷ xs) d ys h k =
+    let parts = and_parts (is_before x y) (is_ascending ((y ∷ xs) ++ d ∷ [])) h in
+    and_from (is_before x y) (is_ascending ((y ∷ xs) ++ d ∷ ys)) parts.0 (glue (y ∷ xs) d ys parts.1 k)
 
 pub front : (xs : List Det) (d : Det) (ys : List Det) → is_ascending (xs ++ d ∷ ys) ≡ true → is_ascending (xs ++ d ∷ []) ≡ true
 front [] d ys h = refl
-front (x ∷ []) d ys h = grind (arith, and_from)
-front (x ∷ y ∷ xs) d ys h = grind (arith, front (y ∷ xs) d ys, and_parts, and_from)
+front (x ∷ []) d ys h = and_from (is_before x d) true (and_parts (is_before x d) (is_ascending (d ∷ ys)) h).0 refl
+front (x ∷ y ∷ xs) d ys h =
+    let parts = and_parts (is_before x y) (is_ascending ((y ∷ xs) ++ d ∷ ys)) h in
+    and_from (is_before x y) (is_ascending ((y ∷ xs) ++ d ∷ [])) parts.0 (front (y ∷ xs) d ys parts.1)
 
 pub back : (xs ys : List Det) → is_ascending (xs ++ ys) ≡ true → is_ascending ys ≡ true
 back [] ys h = h
@@ -96,7 +113,9 @@ back (x ∷ xs) ys h = back xs ys (ascending_tail x (xs ++ ys) h)
 pub without : (xs : List Det) (d : Det) (ys : List Det) → is_ascending (xs ++ d ∷ ys) ≡ true → is_ascending (xs ++ ys) ≡ true
 without [] d ys h = ascending_tail d ys h
 without (x ∷ []) d ys h = ascending_skip x d ys h
-without (x ∷ y ∷ xs) d ys h = grind (arith, without (y ∷ xs) d ys, and_parts, and_from)
+without (x ∷ y ∷ xs) d ys h =
+    let parts = and_parts (is_before x y) (is_ascending ((y ∷ xs) ++ d ∷ ys)) h in
+    and_from (is_before x y) (is_ascending ((y ∷ xs) ++ ys)) parts.0 (without (y ∷ xs) d ys parts.1)
 
 -- the last element of an ascending list can be replaced by a later one
 pub raise : (xs : List Det) (d e : Det) → is_ascending (xs ++ d ∷ []) ≡ true → is_before d e ≡ true → is_ascending (xs ++ e ∷ []) ≡ true
@@ -109,14 +128,21 @@ last_there xs d = list_any-append (same_det d) xs (d ∷ []) ∙ or_right (list_
 -- a determinant is in neither a list before it nor a list after it
 pub none_front : (xs : List Det) (d : Det) → is_ascending (xs ++ d ∷ []) ≡ true → list_any (same_det d) xs ≡ false
 none_front [] d h = refl
-none_front (x ∷ xs) d h = grind (arith, none_front xs d (ascending_tail x (xs ++ d ∷ []) h), first_before x (xs ++ d ∷ []) d h (last_there xs d), same_is d x, not_itself x)
+none_front (x ∷ xs) d h =
+    let apart = same_turned d x ∙ before_apart x d (first_before x (xs ++ d ∷ []) d h (last_there xs d)) in
+    let rest = none_front xs d (ascending_tail x (xs ++ d ∷ []) h) in
+    λ i. apart i || rest i
 
 pub none_back : (d : Det) (ys : List Det) → is_ascending (d ∷ ys) ≡ true → list_any (same_det d) ys ≡ false
-none_back d ys h = grind (arith, first_before d ys d h, not_itself d)
+none_back d ys h = false_from_ne_true (list_any (same_det d) ys) (λ there. true≢false (sym (first_before d ys d h there) ∙ not_itself d))
 
 lookup_append : {X : Type 0} (q : Det) (es fs : List (Det × X)) → lookup (same_det q) (es ++ fs) ≡ option_or (lookup (same_det q) es) (lookup (same_det q) fs)
 lookup_append q [] fs = refl
-lookup_append q (e ∷ es) fs = grind (arith, lookup_append q es fs)
+lookup_append q (e ∷ es) fs =
+    elim (same_det q e.0) as (λ b. cond b (Some e.1) (lookup (same_det q) (es ++ fs)) ≡ option_or (cond b (Some e.1) (lookup (same_det q) es)) (lookup (same_det q) fs)) [
+      | true ↦ refl
+      | false ↦ lookup_append q es fs
+    ]
 
 pub found_append : (q : Det) (xs ys : List Item) → lookup (same_det q) (item_entries (xs ++ ys)) ≡ option_or (lookup (same_det q) (item_entries xs)) (lookup (same_det q) (item_entries ys))
 found_append q xs ys = ap (lookup (same_det q)) (map-append (λ item. (item.det, known_of_item item)) xs ys) ∙ lookup_append q (item_entries xs) (item_entries ys)
@@ -146,14 +172,35 @@ module _ (f : ℕ) (log : LogMap) (det : Det) (news : Known) (out rest : List It
       → ((q : Det) → same_det q det ≡ false → lookup (same_det q) (item_entries later) ≡ lookup (same_det q) (item_entries rest))
       → out ++ later ≡ batch_items f (after_learn log det news)
   heard_now later ascend here elsewhere =
-      recognized f (after_learn log det news) (out ++ later) ascend (λ q.
-      grind (arith, found_append q out later, get_learned log det news q, found q, not_out, here, elsewhere q, same_is q det))
+      recognized f (after_learn log det news) (out ++ later) ascend (λ q. found_append q out later ∙ by q (same_det q det) refl ∙ ap (carried_knowledge f) (sym (get_learned log det news q)))
+    where
+      by : (q : Det) (b : Bool) → same_det q det ≡ b
+          → option_or (lookup (same_det q) (item_entries out)) (lookup (same_det q) (item_entries later)) ≡ carried_knowledge f (cond b (Some now_known) (fin.get log q))
+      by q true same =
+          ap (λ d. option_or (lookup (same_det d) (item_entries out)) (lookup (same_det d) (item_entries later))) (same_is q det same)
+          ∙ ap (λ o. option_or o (lookup (same_det det) (item_entries later))) not_out ∙ here
+      by q false apart = ap (option_or (lookup (same_det q) (item_entries out))) (elsewhere q apart) ∙ found q
 
   -- the items with this knowledge of the determinant, and other items after it
   pub become : (known : Known) (later : List Item) → now_known ≡ known → is_ascending (dets_of out ++ det ∷ dets_of later) ≡ true → lookup (same_det det) (item_entries later) ≡ None
       → ((q : Det) → same_det q det ≡ false → lookup (same_det q) (item_entries later) ≡ lookup (same_det q) (item_entries rest))
       → with_carried f det known out ++ later ≡ batch_items f (after_learn log det news)
-  become known later now ascend none elsewhere = grind (arith, append_assoc, heard_now, dets_append, same_itself, carried_unmarked, without)
+  become known later now ascend none elsewhere = by (is_carried f known) refl
+    where
+      item : Item
+      item = record { det = det; holders = known.holders }
+
+      carried_now : (b : Bool) → is_carried f known ≡ b → carried_knowledge f (Some now_known) ≡ cond b (Some known) None
+      carried_now b is = ap (λ k. carried_knowledge f (Some k)) now ∙ ap (λ c. cond c (Some known) None) is
+
+      by : (b : Bool) → is_carried f known ≡ b → cond b (out ++ item ∷ []) out ++ later ≡ batch_items f (after_learn log det news)
+      by true carries =
+          append_assoc out (item ∷ []) later
+          ∙ heard_now (item ∷ later) (ap is_ascending (dets_append out (item ∷ later)) ∙ ascend)
+          (ap (λ c. cond c (Some (known_of_item item)) (lookup (same_det det) (item_entries later))) (same_itself det) ∙ ap Some (carried_unmarked f known carries) ∙ sym (carried_now true carries))
+          (λ q apart. ap (λ c. cond c (Some (known_of_item item)) (lookup (same_det q) (item_entries later))) apart ∙ elsewhere q apart)
+      by false closed =
+          heard_now later (ap is_ascending (dets_append out later) ∙ without (dets_of out) det (dets_of later) ascend) (none ∙ sym (carried_now false closed)) elsewhere
 
 -- one more item that comes before a determinant is copied
 pub passed_on : (out : List Item) (x : Item) (rest : List Item) (det : Det) → is_ascending (dets_of (out ++ x ∷ rest)) ≡ true → is_before x.det det ≡ true → is_ascending (dets_of (out ++ x ∷ []) ++ det ∷ []) ≡ true
@@ -189,11 +236,23 @@ module _ (f : ℕ) (log : LogMap) (det : Det) (news : Known) (out : List Item) (
   known_now = grind (arith, in_rest f log det news out (item ∷ rest) is before, here, same_itself det)
 
   not_later : lookup (same_det det) (item_entries rest) ≡ None
-  not_later = grind (arith, none_found, none_back, back, ascend)
+  not_later = none_found det rest (none_back det (dets_of rest) (ap (λ d. is_ascending (d ∷ dets_of rest)) (sym here) ∙ back (dets_of out) (item.det ∷ dets_of rest) ascend))
 
   -- the item is replaced by what is known afterwards, if that is still carried
   pub met : with_carried f det (union_with (known_of_item item) news) out ++ rest ≡ batch_items f (after_learn log det news)
-  met = grind (arith, become f log det news out (item ∷ rest) is before (union_with (known_of_item item) news) rest, known_now, ascend, not_later, here)
+  met =
+      become f log det news out (item ∷ rest) is before (union_with (known_of_item item) news) rest (ap (λ k. union_with k news) known_now)
+      (ap (λ d. is_ascending (dets_of out ++ d ∷ dets_of rest)) (sym here) ∙ ascend) not_later
+      (λ q apart. sym (ap (λ b. cond b (Some (known_of_item item)) (lookup (same_det q) (item_entries rest))) (ap (same_det q) here ∙ apart)))
+
+-- a determinant that is logged and carried is found
+not_missed : (f : ℕ) (o : Option Known) → is_some o ≡ true → is_carried f (unwrap_or o unknown) ≡ true → carried_knowledge f o ≡ None → ⊥
+not_missed f None there carries none = true≢false (sym there)
+not_missed f (Some known) there carries none = true≢false (ap is_some (sym (ap (λ b. cond b (Some known) None) carries) ∙ none))
+
+unknown_at : (o : Option Known) → is_some o ≡ false → unwrap_or o unknown ≡ unknown
+unknown_at None new = refl
+unknown_at (Some known) new = absurd (true≢false new)
 
 -- if no item is of the determinant
 module _ (f : ℕ) (log : LogMap) (det : Det) (news : Known) (out rest : List Item) (is : out ++ rest ≡ batch_items f log) (before : is_ascending (dets_of out ++ det ∷ []) ≡ true) (after : is_ascending (det ∷ dets_of rest) ≡ true) where
@@ -201,22 +260,31 @@ module _ (f : ℕ) (log : LogMap) (det : Det) (news : Known) (out rest : List It
   none_there = none_found det rest (none_back det (dets_of rest) after)
 
   becomes : (known : Known) → union_with (known_of log det) news ≡ known → with_carried f det known out ++ rest ≡ batch_items f (after_learn log det news)
-  becomes known now = grind (arith, become, glue, none_there)
+  becomes known now = become f log det news out rest is before known rest now (glue (dets_of out) det (dets_of rest) before after) none_there (λ q apart. refl)
 
   stays : is_carried f (union_with (known_of log det) news) ≡ false → out ++ rest ≡ batch_items f (after_learn log det news)
-  stays never = grind (arith, becomes (union_with (known_of log det) news) refl)
+  stays never =
+      let known = union_with (known_of log det) news in
+      sym (ap (λ b. cond b (out ++ record { det = det; holders = known.holders } ∷ []) out ++ rest) never) ∙ becomes known refl
 
   -- it is not added if what is learned of it alone would not be carried
   pub still_out : is_carried f news ≡ false → out ++ rest ≡ batch_items f (after_learn log det news)
-  still_out never = stays (grind (arith, both_carried f (known_of log det) news))
+  still_out never = stays (false_from_ne_true (is_carried f (union_with (known_of log det) news)) (λ carries. true≢false (sym (both_carried f (known_of log det) news carries).1 ∙ never)))
 
   -- it is not added if it is logged, whatever is learned of it
   pub logged_out : is_some (fin.get log det) ≡ true → out ++ rest ≡ batch_items f (after_learn log det news)
-  logged_out there = stays (grind (arith, both_carried f (known_of log det) news, none_there, in_rest f log det news out rest is before))
+  logged_out there =
+      stays (false_from_ne_true (is_carried f (union_with (known_of log det) news)) (λ carries.
+      not_missed f (fin.get log det) there (both_carried f (known_of log det) news carries).0 (sym (in_rest f log det news out rest is before) ∙ none_there)))
 
   -- it is added if it is not logged
   pub comes_in : is_some (fin.get log det) ≡ false → with_carried f det (union_with unknown news) out ++ rest ≡ batch_items f (after_learn log det news)
-  comes_in new = becomes (union_with unknown news) (grind arith)
+  comes_in new = becomes (union_with unknown news) (ap (λ k. union_with k news) (unknown_at (fin.get log det) new))
+
+  -- so it is added unless it is logged
+  pub new_pushed : (logged : Bool) → is_some (fin.get log det) ≡ logged → cond logged out (with_carried f det news out) ++ rest ≡ batch_items f (after_learn log det news)
+  new_pushed true there = logged_out there
+  new_pushed false new = ap (λ k. with_carried f det k out ++ rest) (sym (joined_nothing news)) ∙ comes_in new
 
 -- learning of determinants that messages do not carry, from items that would not be carried, changes nothing
 pub apart_carried : (f : ℕ) (from me : Pid) (kept items : List Item) (log : LogMap) → ((item : Item) → is_carried f (knowledge_from_item from me item).1 ≡ false) → AreDisjoint items kept → kept ≡ batch_items f log → kept ≡ batch_items f (after_absorb items from me log)
@@ -259,7 +327,11 @@ module _ (f : ℕ) (items : List Item) (from me : Pid) (source : LogMap) where
     carries = hears h.log (grind (arith, h.same x.det, same_itself x.det)) (moved ∙ h.carries);
     all = h.all;
     same = λ q there.
-        grind (arith, get_learned h.log x.det (knowledge_from_item from me x).1 q, same_turned q x.det, before_apart x.det q, first_before x.det (dets_of rest) q ascend, any_map (λ other. other.det) (same_det q) (λ other. same_det q other.det) (λ other. refl) rest, h.same q);
+        let news = (knowledge_from_item from me x).1 in
+        let here = any_map (λ other. other.det) (same_det q) (λ other. same_det q other.det) (λ other. refl) rest ∙ there in
+        let apart = same_turned q x.det ∙ before_apart x.det q (first_before x.det (dets_of rest) q ascend here) in
+        get_learned h.log x.det news q ∙ ap (λ b. cond b (Some (union_with (known_of h.log x.det) news)) (fin.get h.log q)) apart
+        ∙ h.same q (or_right (same_det q x.det) (list_any (λ other. same_det q other.det) rest) there);
     before = λ y ys e. before y.det (and_parts (is_before x.det y.det) (is_ascending (y.det ∷ dets_of ys)) (ap (λ xs. is_ascending (dets_of (x ∷ xs))) (sym e) ∙ ascend)).0;
   }
 

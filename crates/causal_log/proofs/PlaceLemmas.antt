@@ -20,7 +20,7 @@ use Rattle.causal_name.specs.Names.{det_cmp, same_det, is_before, is_ascending}
 use Rattle.causal_name.proofs.Lemmas.DetOrder.{dets_total, exact_dets, same_is, same_itself}
 use Rattle.causal_log.specs.declared.known.Known.{Known}
 use Rattle.causal_log.specs.Knowledge.{unknown, union_with}
-use Rattle.causal_log.specs.Logs.{LogMap, after_learn_all}
+use Rattle.causal_log.specs.Logs.{LogMap, after_learn, after_learn_all, known_of}
 use Rattle.causal_log.specs.Inside.Ranks.{has_rank, IsLeastOfSlot}
 use Rattle.causal_log.proofs.EntryLemmas.{find_lookup, get_log, same_log, keys_distinct, nothing, not_itself, not_after}
 use Rattle.causal_log.proofs.Lemmas.Ascents.{ascending_tail, ascending_skip, first_before, map_ascends}
@@ -122,7 +122,16 @@ heard_at (Some known) o = Some (union_with (unwrap_or o unknown) known)
 get_all : (es : List (Det × Known)) (log : LogMap) (q : Det) → IsDistinct same_det (keys_of es) → fin.get (after_learn_all es log) q ≡ heard_at (lookup (same_det q) es) (fin.get log q)
 unfolding IsDistinct
 get_all [] log q distinct = refl
-get_all (e ∷ es) log q distinct = grind (arith, get_all es, get_learned, same_is, none_later)
+get_all (e ∷ es) log q distinct =
+    get_all es (after_learn log e.0 e.1) q distinct.1 ∙ ap (heard_at (lookup (same_det q) es)) (get_learned log e.0 e.1 q) ∙ by (same_det q e.0) refl
+  where
+    by : (b : Bool) → same_det q e.0 ≡ b
+        → heard_at (lookup (same_det q) es) (cond b (Some (union_with (known_of log e.0) e.1)) (fin.get log q)) ≡ heard_at (cond b (Some e.1) (lookup (same_det q) es)) (fin.get log q)
+    by true same =
+        let is = same_is q e.0 same in
+        ap (λ o. heard_at o (Some (union_with (known_of log e.0) e.1))) (ap (λ d. lookup (same_det d) es) is ∙ none_later e.0 es distinct.0)
+        ∙ ap (λ d. Some (union_with (known_of log d) e.1)) (sym is)
+    by false apart = refl
 
 -- the order in which entries are learned does not matter
 pub same_learned : (es : List (Det × Known)) (log : LogMap) → IsDistinct same_det (keys_of es) → after_learn_all es log ≡ after_learn_all (in_order es) log

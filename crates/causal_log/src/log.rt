@@ -14,8 +14,8 @@ use crate::known::Known;
 use crate::limits::MAX_LOGGED;
 use crate::next_batch_merge::{AppliedDelivery, next_batch};
 use crate::table::{
-    Table, chosen_items, det_at_rank, dets, in_order, is_forgotten, learn, learn_entries,
-    learn_items, sorted_chosen_items, unstable_len,
+    Table, chosen_items, det_at_rank, dets, forgotten_dets, in_order, learn, learn_entries,
+    learn_items, marked_dets, sorted_chosen_items, unstable_len,
 };
 use causal_name::{Det, MsgName, NoMemory, Pid, Slot};
 use std::alloc::Global;
@@ -205,18 +205,14 @@ impl Log {
     pub fn stable_dets(&self, alloc: Global) -> Result<Vec<Det>, NoMemory>
         ensures { IfOk result (λ dets. dets.items ≡ stable_in self.now.map) }
     {
-        let sorted = in_order(alloc, self.entries.entries())?;
-        let stable = sorted.iter().filter(|(_, known)| known.stable);
-        Ok(stable.map(|(det, _)| *det).collect(alloc)?)
+        marked_dets(alloc, self.entries.entries(), true)
     }
 
     /// Returns the determinants that are not known to be stable, ascending. Fails only if out of memory.
     pub fn unstable_dets(&self, alloc: Global) -> Result<Vec<Det>, NoMemory>
         ensures { IfOk result (λ dets. dets.items ≡ unstable_in self.now.map) }
     {
-        let sorted = in_order(alloc, self.entries.entries())?;
-        let unstable = sorted.iter().filter(|(_, known)| !known.stable);
-        Ok(unstable.map(|(det, _)| *det).collect(alloc)?)
+        marked_dets(alloc, self.entries.entries(), false)
     }
 
     /// Returns how many determinants are known to be stable. Allocates nothing.
@@ -404,9 +400,7 @@ impl Log {
     pub fn forgotten_dets(&self, alloc: Global, next: Slot) -> Result<Vec<Det>, NoMemory>
         ensures { IfOk result (λ dets. dets.items ≡ forgotten_in next self.now.map) }
     {
-        let sorted = in_order(alloc, self.entries.entries())?;
-        let forgotten = sorted.iter().filter(|entry| is_forgotten(next, entry));
-        Ok(forgotten.map(|(det, _)| *det).collect(alloc)?)
+        forgotten_dets(alloc, self.entries.entries(), next)
     }
 
     /// Removes these determinants. Takes O(entries) time and allocates nothing.

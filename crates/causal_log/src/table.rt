@@ -1,7 +1,7 @@
 //! Log entries in insertion order, found by the slot of their determinant, and scans of all of them.
 #![tactic(auto, using(crate::proofs::Rules::of_table))]
 
-ghost use Rattle.std.specs.Prelude.{◌≡◌, ◌<◌, ◌≤◌, ◌+◌, ◌^◌, ◌++◌, ◌∷◌, [], not, filter, find, map, true, false, All, Some, None, IfSome, IsNone, IsSome, IsOk, IfOk, OnOk, OnErr, length, slice_get};
+ghost use Rattle.std.specs.Prelude.{◌≡◌, ◌<◌, ◌≤◌, ◌+◌, ◌^◌, ◌++◌, ◌∷◌, [], cond, not, filter, find, map, true, false, All, Some, None, IfSome, IsNone, IsSome, IsOk, IfOk, OnOk, OnErr, length, slice_get};
 ghost use Rattle.std.specs.List.{IsDistinct, list_any};
 ghost use Rattle.std.specs.Map.{keys_of};
 ghost use Rattle.std.specs.FinMap as fin;
@@ -11,7 +11,7 @@ ghost use Rattle.causal_name.specs.declared.Det.{Det};
 ghost use Rattle.causal_name.specs.Names.{same_det, is_ascending, is_before};
 ghost use Rattle.causal_log.specs.declared.known.Known.{Known};
 ghost use Rattle.causal_log.specs.Knowledge.{union_with, is_carried};
-ghost use Rattle.causal_log.specs.Logs.{is_forgotten, log_of, item_of, batch_items, after_learn, IsLogged, after_absorb, after_learn_all};
+ghost use Rattle.causal_log.specs.Logs.{forgotten_in, is_forgotten, log_of, item_of, batch_items, after_learn, IsLogged, after_absorb, after_learn_all};
 ghost use Rattle.causal_log.specs.Inside.Ranks.{IsLeastOfSlot, has_rank, lesser_det};
 ghost use Rattle.causal_log.specs.Inside.Tables.{HasSlotKey, is_later, key_word, slot_key, same_slot_key};
 
@@ -314,7 +314,7 @@ impl Table {
 }
 
 /// Returns whether a process whose next delivery has this slot forgets an entry.
-pub(crate) fn is_forgotten(next: Slot, entry: &(Det, Known)) -> bool
+fn is_forgotten(next: Slot, entry: &(Det, Known)) -> bool
     ensures { result ≡ is_forgotten next entry.now }
 {
     let (det, known) = entry;
@@ -653,6 +653,43 @@ pub(crate) fn in_order(
     let mut copy = Vec::from_slice(alloc, entries)?;
     sort(&mut copy)?;
     Ok(copy)
+}
+
+/// Returns the determinants that are known to be stable, or those that are not, ascending.
+pub(crate) fn marked_dets(
+    alloc: Global,
+    entries: &[(Det, Known)],
+    stable: bool,
+) -> Result<Vec<Det>, NoMemory>
+    requires { IsDistinct same_det (keys_of entries.now) }
+    ensures { IfOk result (λ dets. dets.items ≡ keys_of
+        (filter (λ e. cond stable e.1.stable (not e.1.stable)) (fin.entries (log_of entries.now)))) }
+{
+    let mut sorted = in_order(alloc, entries)?;
+    sorted.retain(
+        |entry: &(Det, Known)| -> bool
+            ensures { result ≡ cond stable entry.now.1.stable (not entry.now.1.stable) }
+        { entry.1.stable == stable },
+    );
+    dets(alloc, sorted.as_slice())
+}
+
+/// Returns the determinants that a process whose next delivery has this slot forgets, ascending.
+pub(crate) fn forgotten_dets(
+    alloc: Global,
+    entries: &[(Det, Known)],
+    next: Slot,
+) -> Result<Vec<Det>, NoMemory>
+    requires { IsDistinct same_det (keys_of entries.now) }
+    ensures { IfOk result (λ dets. dets.items ≡ forgotten_in next (log_of entries.now)) }
+{
+    let mut sorted = in_order(alloc, entries)?;
+    sorted.retain(
+        |entry: &(Det, Known)| -> bool
+            ensures { result ≡ is_forgotten next entry.now }
+        { is_forgotten(next, entry) },
+    );
+    dets(alloc, sorted.as_slice())
 }
 
 /// Sorts entries; takes O(entries) time if they are a few ascending runs.

@@ -1,5 +1,5 @@
 -- What a log knows of each determinant after it has learned something.
-use Rattle.std.proofs.Common.{ℕ, ◌≡◌, ◌∙◌, ◌==◌, ◌+◌, Bool, true, false, cond, ◌&&◌, ◌||◌, List, [], ◌∷◌, map, length, Option, Some, is_some, unwrap_or, refl, ap, arith}
+use Rattle.std.proofs.Common.{ℕ, ◌≡◌, ◌∙◌, ◌==◌, ◌+◌, Bool, true, false, cond, ◌&&◌, ◌||◌, List, [], ◌∷◌, map, length, Option, Some, is_some, unwrap_or, refl, sym, ap, arith}
 use Rattle.std.proofs.lemmas.Bool.{and_parts, or_right}
 use Rattle.std.proofs.lemmas.Simd.{map-map}
 use Rattle.std.proofs.Math.Bool.{or_assoc}
@@ -30,7 +30,11 @@ logged_one log det known q = grind (arith, get_learned, or_right, or_nothing)
 -- for a property of knowledge that a union has if either operand has it
 module _ (has : Known → Bool) (either : (one other : Known) → has (union_with one other) ≡ (has one || has other)) where
   known_one : (log : LogMap) (det : Det) (known : Known) (q : Det) → has (known_of (after_learn log det known) q) ≡ (has (known_of log q) || (same_det q det && has known))
-  known_one log det known q = grind (arith, get_learned log det known q, either (known_of log det) known, same_is q det)
+  known_one log det known q = ap (λ o. has (unwrap_or o unknown)) (get_learned log det known q) ∙ by (same_det q det) refl
+    where
+      by : (b : Bool) → same_det q det ≡ b → has (unwrap_or (cond b (Some (union_with (known_of log det) known)) (fin.get log q)) unknown) ≡ (has (known_of log q) || (b && has known))
+      by true same = either (known_of log det) known ∙ ap (λ d. has (known_of log d) || has known) (sym (same_is q det same))
+      by false apart = or_nothing (has (known_of log q))
 
   -- after all entries are learned, q has the property if it had it before or a learned entry gives it
   pub known_all : (es : List (Det × Known)) (log : LogMap) (q : Det) → has (known_of (after_learn_all es log) q) ≡ (has (known_of log q) || list_any (λ e. same_det q e.0 && has e.1) es)

@@ -56,21 +56,41 @@ module _ {X : Type 0} where
   module _ (P : X → Bool) where
     none_below : (d : Det) (es : List (Det × X)) → below_all det_cmp d es ≡ true → list_any (λ e. same_det d e.0 && P e.1) es ≡ false
     none_below d [] h = refl
-    none_below d (e ∷ es) h = grind (arith, none_below d es, and_parts, before_apart)
+    none_below d (e ∷ es) h = let parts = and_parts (is_before d e.0) (below_all det_cmp d es) h in λ i. (before_apart d e.0 parts.0 i && P e.1) || none_below d es parts.1 i
 
     -- in sorted entries a test of one determinant's value agrees with a look-up
     pub any_found : (q : Det) (es : List (Det × X)) → is_sorted det_cmp es ≡ true → list_any (λ e. same_det q e.0 && P e.1) es ≡ passes P (find det_cmp q es)
     any_found q [] h = refl
-    any_found q (e ∷ es) h = grind (arith, any_found q es, and_parts, det_ties, same_is, none_below, or_nothing)
+    any_found q (e ∷ es) h = ap (λ b. (b && P e.1) || list_any (λ x. same_det q x.0 && P x.1) es) (det_ties q e.0) ∙ by (is_eq (det_cmp q e.0)) refl (any_found q es (and_parts (below_all det_cmp e.0 es) (is_sorted det_cmp es) h).1)
+      where
+        by : (b : Bool) → is_eq (det_cmp q e.0) ≡ b → list_any (λ x. same_det q x.0 && P x.1) es ≡ passes P (find det_cmp q es) → ((b && P e.1) || list_any (λ x. same_det q x.0 && P x.1) es) ≡ passes P (cond b (Some e.1) (find det_cmp q es))
+        by true same later =
+            let others = ap (λ d. list_any (λ x. same_det d x.0 && P x.1) es) (same_is q e.0 (det_ties q e.0 ∙ same)) ∙ none_below e.0 es (and_parts (below_all det_cmp e.0 es) (is_sorted det_cmp es) h).0 in
+            ap (λ r. P e.1 || r) others ∙ sym (or_nothing (P e.1))
+        by false apart later = later
 
   missing_below : (d : Det) (es : List (Det × X)) → below_all det_cmp d es ≡ true → find det_cmp d es ≡ None
   missing_below d [] h = refl
-  missing_below d (e ∷ es) h = grind (arith, missing_below d es, and_parts, apart)
+  missing_below d (e ∷ es) h =
+      let parts = and_parts (is_before d e.0) (below_all det_cmp d es) h in
+      ap (λ b. cond b (Some e.1) (find det_cmp d es)) (apart (det_cmp d e.0) parts.0) ∙ missing_below d es parts.1
 
   -- a look-up in the entries that pass returns what a look-up in all entries returns, if that passes
   pub find_kept : (P : X → Bool) (q : Det) (es : List (Det × X)) → is_sorted det_cmp es ≡ true → find det_cmp q (filter (λ e. P e.1) es) ≡ kept_if P (find det_cmp q es)
   find_kept P q [] h = refl
-  find_kept P q (e ∷ es) h = grind (arith, find_kept P q es, same_is, det_ties, missing_below)
+  find_kept P q (e ∷ es) h = by (P e.1) (is_eq (det_cmp q e.0)) refl refl (find_kept P q es (and_parts (below_all det_cmp e.0 es) (is_sorted det_cmp es) h).1)
+    where
+      rest : List (Det × X)
+      rest = filter (λ x. P x.1) es
+
+      by : (keeps is : Bool) → P e.1 ≡ keeps → is_eq (det_cmp q e.0) ≡ is → find det_cmp q rest ≡ kept_if P (find det_cmp q es)
+          → find det_cmp q (cond keeps (e ∷ rest) rest) ≡ kept_if P (cond is (Some e.1) (find det_cmp q es))
+      by true true keeps same later = ap (λ b. cond b (Some e.1) (find det_cmp q rest)) same ∙ sym (ap (λ b. cond b (Some e.1) None) keeps)
+      by true false keeps same later = ap (λ b. cond b (Some e.1) (find det_cmp q rest)) same ∙ later
+      by false true keeps same later =
+          let none = ap (λ d. find det_cmp d es) (same_is q e.0 (det_ties q e.0 ∙ same)) ∙ missing_below e.0 es (and_parts (below_all det_cmp e.0 es) (is_sorted det_cmp es) h).0 in
+          later ∙ ap (kept_if P) none ∙ sym (ap (λ b. cond b (Some e.1) None) keeps)
+      by false false keeps same later = later
 
 module _ {X : Type 0} where
   -- in a map's entries a test of one determinant's value agrees with a look-up
