@@ -63,8 +63,25 @@ pub fn audit<G: Gate + Sync, R: Threads + Wait>(
     ensures one_worker { result ≡ Err AuditFault.NoWorker → 2 ≤ workers }
 {
     let (prepared, excess) = prepare_by(rt, alloc, trace, f, workers)?;
-    let least = earliest_breach(rt, alloc, trace, &prepared, workers, gate)?;
+    let least = breach_of_prepared(rt, alloc, trace, prepared, workers, gate)?;
     Ok(decide_verdict(excess, least))
+}
+
+/// Returns the earliest breach of all followed deliveries, and drops the prepared run.
+fn breach_of_prepared<G: Gate + Sync, R: Threads + Wait>(
+    rt: &R,
+    alloc: Global,
+    trace: &Trace,
+    prepared: PreparedRun,
+    workers: u32,
+    gate: &G,
+) -> Result<Option<Breach>, AuditFault>
+    requires workers { (1 ≤ workers) × (workers ≤ 64) }
+    requires same { trace.now.recording ≡ prepared.run }
+    ensures least { IfOk result (EarliestOf prepared) }
+    ensures one_worker { result ≡ Err AuditFault.NoWorker → 2 ≤ workers }
+{
+    earliest_breach(rt, alloc, trace, &prepared, workers, gate)
 }
 
 /// Returns the earliest breach of all followed deliveries.

@@ -38,14 +38,98 @@ pub(crate) fn prepare_by<R: Threads>(
         × AreSufficient trace.now.recording f end ready.0) }
 {
     let ((excess, whole), (effects, transitions)) = index_whole_by(rt, alloc, trace, f, workers);
+    let indexed = index_deciding(alloc, trace, f, &excess, whole, effects, transitions)?;
+    let prepared = prepare_indexed_by(rt, alloc, trace, indexed, workers)?;
+    Ok((prepared, excess))
+}
+
+/// Indexes the run up to an instant such that the earliest breach up to it decides the verdict, given what is indexed of
+/// the whole run and its first excess.
+///
+/// # Errors
+/// `NoMemory` if allocation fails, or failed in an index.
+fn index_deciding(
+    alloc: Global,
+    trace: &Trace,
+    f: u16,
+    excess: &Option<Excess>,
+    whole: Option<PrefixIndex>,
+    effects: Result<EffectIndex, NoMemory>,
+    transitions: Result<TransitionIndex, NoMemory>,
+) -> Result<IndexedRun, NoMemory>
+    requires excess { FirstExcess trace.now.recording f excess.now }
+    requires whole { IfSome whole (IsWholeIndex trace.now.recording f) }
+    requires effects { IfOk effects (λ effects. effects ≡ trace.now.recording) }
+    requires transitions { IfOk transitions (λ transitions. transitions ≡ trace.now.recording) }
+    ensures { IfOk result (λ indexed. (end : ℕ) × IsHorizon trace.now.recording f excess.now end
+        × (indexed ≡ search_scope trace.now.recording f end)) }
+{
+    let (early, end) = index_first(alloc, trace, f, excess, effects, transitions)?;
+    index_again(alloc, trace, f, end, early, whole)
+}
+
+/// Indexes the early part of a run as `index_early` does, if the run could be indexed.
+///
+/// # Errors
+/// `NoMemory` if allocation fails, or failed in an index.
+fn index_first(
+    alloc: Global,
+    trace: &Trace,
+    f: u16,
+    excess: &Option<Excess>,
+    effects: Result<EffectIndex, NoMemory>,
+    transitions: Result<TransitionIndex, NoMemory>,
+) -> Result<(IndexedRun, u32), NoMemory>
+    requires excess { FirstExcess trace.now.recording f excess.now }
+    requires effects { IfOk effects (λ effects. effects ≡ trace.now.recording) }
+    requires transitions { IfOk transitions (λ transitions. transitions ≡ trace.now.recording) }
+    ensures run { IfOk result (λ early. early.0.run ≡ trace.now.recording) }
+    ensures within { IfOk result (λ early. early.1 ≤ length trace.now.recording.past) }
+    ensures decides { IfOk result (λ early. IsHorizon trace.now.recording f excess.now early.1) }
+{
     let effects = effects?;
     let transitions = transitions?;
-    let (early, end) = index_early(alloc, trace, f, &excess, transitions, effects)?;
+    index_early(alloc, trace, f, excess, transitions, effects)
+}
+
+/// Indexes an indexed run up to another instant.
+///
+/// # Errors
+/// `NoMemory` if allocation fails.
+fn index_again(
+    alloc: Global,
+    trace: &Trace,
+    f: u16,
+    end: u32,
+    early: IndexedRun,
+    whole: Option<PrefixIndex>,
+) -> Result<IndexedRun, NoMemory>
+    requires run { early.run ≡ trace.now.recording }
+    requires within { end ≤ length trace.now.recording.past }
+    requires whole { IfSome whole (IsWholeIndex trace.now.recording f) }
+    ensures { IfOk result (λ indexed. indexed ≡ search_scope trace.now.recording f end) }
+{
     let prefix = prefix_index(alloc, trace, f, end, whole)?;
-    let indexed = early.with_prefix(alloc, trace, prefix)?;
+    early.with_prefix(alloc, trace, prefix)
+}
+
+/// Prepares an indexed run by a search over all its deliveries, which the workers share.
+///
+/// # Errors
+/// `NoMemory` if allocation fails.
+fn prepare_indexed_by<R: Threads>(
+    rt: &R,
+    alloc: Global,
+    trace: &Trace,
+    indexed: IndexedRun,
+    workers: u32,
+) -> Result<PreparedRun, NoMemory>
+    requires { trace.now.recording ≡ indexed.run }
+    ensures run { IfOk result (λ prepared. prepared.run ≡ indexed.run) }
+    ensures sufficient { IfOk result (AreSufficient indexed.run indexed.f indexed.end) }
+{
     let found = search_by(rt, alloc, trace, &indexed, 0, indexed.deliveries(), workers)?;
-    let prepared = PreparedRun::from_search(indexed, found)?;
-    Ok((prepared, excess))
+    PreparedRun::from_search(indexed, found)
 }
 
 /// Indexes the whole run, and finds its first excess. If the run is long, several workers do so, each by a pass over all
