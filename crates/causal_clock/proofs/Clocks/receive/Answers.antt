@@ -3,6 +3,7 @@ use Rattle.std.proofs.Common.{◌≡◌, ◌≢◌, ℕ, ◌+◌, ◌<◌, [], �
 use Rattle.std.proofs.Math.ListN.{length-set}
 use Rattle.std.proofs.lemmas.List.{length-map}
 use Rattle.causal_clock.specs.declared.lane.LaneColumns.{LaneColumns}
+use Rattle.causal_clock.specs.Timeline.{Timeline}
 use Rattle.causal_clock.specs.Inside.Columns.{SameOrNoNews}
 use Rattle.causal_clock.specs.Inside.Fields.{events_of, lane_places, counts_in}
 use Rattle.causal_clock.proofs.Columns.{raised_alike}
@@ -21,10 +22,16 @@ invariant_of-self-in_err-reserve_counts c =
     grind (arith, length-set {A = LaneColumns}, keeps_unchanged (events_of c.self.inside) (lane_places c.self.inside) c.self.inside.lanes.items c.args.lane c.index_mut-own.result.now c.reserve_counts.new.self (rw (← c.self.view_is) at c.requires.lane) c.index_mut-own.ensures.value c.reserve_counts.ensures.events c.reserve_counts.ensures.same c.self.invariant.keeps)
 
 pub append_counts-requires-clause-few : goal.append_counts-requires-clause-few
-append_counts-requires-clause-few c = grind (arith, read_lane)
+append_counts-requires-clause-few c =
+    let own = read_lane c.self.inside c.args.lane c.index_mut-own.result.now c.self.invariant (rw (← c.self.view_is) at c.requires.lane) c.index_mut-own.ensures.value in
+    let room : length (events_of c.self.inside) < 16777216 = rw (← c.self.view_is) at c.requires.room in
+    omega (arith, own.1, room, c.reserve_counts.ensures.events)
 
 pub append-requires-clause-place : goal.append-requires-clause-place
-append-requires-clause-place c = grind (arith, read_lane)
+append-requires-clause-place c =
+    let own = read_lane c.self.inside c.args.lane c.index_mut-own.result.now c.self.invariant (rw (← c.self.view_is) at c.requires.lane) c.index_mut-own.ensures.value in
+    let room : length (events_of c.self.inside) < 16777216 = rw (← c.self.view_is) at c.requires.room in
+    omega (arith, own.1, room, c.append_counts.ensures.events, c.reserve_counts.ensures.events)
 
 pub invariant_of-self-2 : goal.invariant_of-self-2
 invariant_of-self-2 c =
@@ -46,3 +53,30 @@ invariant_of-self-2 c =
     (rw (← c.self.view_is) at c.requires.room) (c.append.ensures.counted ∙ ap (λ n. n + 1) events_are)
     (λ source. grind (arith, c.append.ensures.same, c.append_counts.ensures.raised source, c.reserve_counts.ensures.same source, c.as_slice-2.ensures.value, raised_alike, x.kept.told source x.events x.kept.within, both source)) _
     (c.append.ensures.appended ∙ (λ i. c.reserve.ensures.items i ++ record { event = record { lane = c.args.lane; send = Some c.args.send_event }; place = events_are i } ∷ [])) refl refl
+
+pub index-sent-requires : goal.index-sent-requires
+index-sent-requires c =
+    let sent : c.args.send_event < length (events_of c.self.inside) = rw (← c.self.view_is) at c.requires.sent in
+    omega (arith, sent, length-map c.self.inside.placed_events.items (λ x. x.event), c.self.inside.placed_events.ok)
+
+pub index-to-requires : goal.index-to-requires
+index-to-requires c =
+    let lt : c.args.lane < length c.self.inside.lanes.items = rw (← c.self.view_is) at c.requires.lane in
+    omega (arith, lt, c.self.inside.lanes.ok)
+
+pub index_mut-own-requires : goal.index_mut-own-requires
+index_mut-own-requires c =
+    let lt : c.args.lane < length c.self.inside.lanes.items = rw (← c.self.view_is) at c.requires.lane in
+    omega (arith, lt, c.self.inside.lanes.ok)
+
+pub append_counts-requires-clause-room : goal.append_counts-requires-clause-room
+append_counts-requires-clause-room c = rw c.as_slice-2.ensures.value (rw c.as_slice.ensures.value at c.in_ok-reserve_counts.ensures.room)
+
+pub append-requires-clause-few : goal.append-requires-clause-few
+append-requires-clause-few c =
+    let room : length (events_of c.self.inside) < 16777216 = rw (← c.self.view_is) at c.requires.room in
+    omega (arith, room, c.reserve.ensures.len, length-map c.self.inside.placed_events.items (λ x. x.event), c.self.inside.placed_events.ok)
+
+pub returns-clause-number : goal.returns-clause-number
+returns-clause-number c =
+    omega (arith, c.append.ensures.number, c.reserve.ensures.len, length-map c.self.inside.placed_events.items (λ x. x.event), c.self.inside.placed_events.ok, ap (λ (t : Timeline). length t.events) c.self.view_is)
