@@ -68,8 +68,30 @@ pub fn audit_text<G: Gate + Sync, R: Threads + Wait>(
     ensures one_worker { result ≡ Err (AuditTextFault.Audit AuditFault.NoWorker) → 2 ≤ workers }
 {
     let trace = read_trace_by(rt, alloc, bytes, workers)?;
-    let judged = judge_trace(rt, alloc, &trace, f, workers, gate)?;
+    let judged = judge_read(rt, alloc, trace, f, workers, gate)?;
     Ok(judged)
+}
+
+/// Returns what `judge_trace` does on a trace that was just read, and drops the trace.
+///
+/// # Errors
+/// Those of [`audit`].
+pub(crate) fn judge_read<G: Gate + Sync, R: Threads + Wait>(
+    rt: &R,
+    alloc: Global,
+    trace: Trace,
+    f: u16,
+    workers: u32,
+    gate: &G,
+) -> Result<Judged, AuditFault>
+    requires { (1 ≤ workers) × (workers ≤ 64) }
+    ensures verdict { IfOk result (λ judged. IsVerdict trace.recording f judged.verdict) }
+    ensures entries { IfOk result (λ judged. judged.entries ≡ length trace.recording.past) }
+    ensures deliveries { IfOk result (λ judged. judged.deliveries ≡
+        deliveries_in trace.recording.past) }
+    ensures one_worker { result ≡ Err AuditFault.NoWorker → 2 ≤ workers }
+{
+    judge_trace(rt, alloc, &trace, f, workers, gate)
 }
 
 /// Returns the verdict for f on a trace, by 1 to 64 workers, with the numbers of its entries and deliveries.

@@ -9,7 +9,7 @@ ghost use Rattle.causal_workers.specs.Inside.PieceOutcomes.{IsPieceOutcome};
 ghost use Rattle.causal_workers.specs.declared.looks.Looks.{Looks};
 
 use crate::gate::Gate;
-use crate::judgement::judge_trace;
+use crate::judgement::{judge_read, judge_trace};
 use crate::looks::{LookTimer, Looks};
 use crate::parallel_audit::AuditFault;
 use causal_audit::{Judged, Verdict};
@@ -231,7 +231,7 @@ fn judge_whole<G: Gate + Sync, R: Threads + Wait>(
         Ok(trace) => trace,
         Err(rejected) => return Err(VerdictError::Input(ReadError::Text(rejected))),
     };
-    match judge_trace(rt, alloc, &trace, f, workers, gate) {
+    match judge_read(rt, alloc, trace, f, workers, gate) {
         Ok(judged) => Ok(StreamVerdict::Whole(judged)),
         Err(fault) => Err(VerdictError::Audit(fault)),
     }
