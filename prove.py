@@ -23,7 +23,7 @@ MORE_JOBS = 2  # jobs beyond one for each processor, since no proof keeps all it
 BEHIND = 10  # by how much a proof that is not urgent stands behind the others, in the system's priorities
 FIXED, EACH_LINE = 15, 0.085  # seconds that a proof takes: for loading what is below, and for each line of code
 # How many times as long as that rule says the proofs of a crate take that is generic, or whose `main` holds the whole program.
-DEARER = {"causal_memory": 1.4, "causal_core": 1.2, "causal_shared": 1.5, "causal_run": 1.4, "causal_runtime_commands": 1.3, PROGRAM: 2}
+DEARER = {"causal_memory": 1.2, "causal_shared": 1.2, "causal_run": 1.8, "causal_runtime_commands": 1.3, PROGRAM: 1.8}
 # Words on a proof's last line that no crate of the repository may have.
 REFUSED = ("foreign", "hides", "partial", "may-abort", "may-serve", "bugs")
 
