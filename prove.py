@@ -141,16 +141,17 @@ class Proving:
 
     def start_ready(self):
         """Begins the proofs of crates that wait for nothing, as long as processors and jobs are left."""
-        for name in [name for name in self.left if self.proved.issuperset(self.crates[name].ours)]:
-            if len(self.running) >= self.lanes or sum(jobs for _, jobs in self.running.values()) >= self.lanes + MORE_JOBS:
+        ready = [name for name in self.left if self.proved.issuperset(self.crates[name].ours)]
+        for at, name in enumerate(ready):
+            idle = self.lanes - len(self.running)
+            if not idle or sum(jobs for _, jobs in self.running.values()) >= self.lanes + MORE_JOBS:
                 return
-            self.start(name, self.jobs_for(name))
+            self.start(name, max(1, min(MOST_JOBS, self.lanes, max(idle // (len(ready) - at), self.jobs_needed(name)))))
 
-    def jobs_for(self, name):
-        """As many jobs as the chain that begins with the crate needs, so that it ends no later than all work on all processors, and a
-        fifth more, since a proof's jobs wait for one another."""
+    def jobs_needed(self, name):
+        """The jobs by which the chain that begins with the crate ends no later than all work does on all processors."""
         work = sum(self.crates[it].cost for it in (*self.left, *self.running))
-        return max(1, min(MOST_JOBS, self.lanes, round(1.2 * self.behind[name] * self.lanes / work)))
+        return round(self.behind[name] * self.lanes / work)
 
     def start(self, name, jobs):
         crate = self.crates[name]
