@@ -70,16 +70,6 @@ pub forget_few : (r : Run) (p : Pid) (listed : List Det) → request_fault r (Re
 unfolding request_refusals
 forget_few r p listed none is = grind arith
 
--- if there is nothing to forget, nothing is recorded
-pub forgot_nothing : (r next : Run) (p : Pid) (listed : List Det) → next ≡ r → request_fault r (Requests.Forget p) ≡ None → listed ≡ dets_to_forget r p → length listed ≡ 0 → Steps r (Requests.Forget p) (Replies.Forgotten 0) next
-unfolding LegalStep
-forgot_nothing r next p listed same none is empty = grind arith
-
--- if there is something to forget, one entry that lists all of it makes a legal step
-pub forgot : (r mid next : Run) (p : Pid) (listed : List Det) (count : ℕ) → mid ≡ r → request_fault r (Requests.Forget p) ≡ None → listed ≡ dets_to_forget r p → 1 ≤ length listed → count ≡ length listed → next ≡ extend_run mid (Requests.Forget p) (Forget p listed ∷ []) → Steps r (Requests.Forget p) (Replies.Forgotten count) next
-unfolding LegalStep
-forgot r mid next p listed count same none is some number run = grind arith
-
 -- a forget appends nothing, or one forget entry
 appended_is : (r next : Run) (p : Pid) (told : Result ℕ CoreFault) → Steps r (Requests.Forget p) (reply_of_forget told) next → (ds : List Det) × (next ≡ extend_run r (Requests.Forget p) (forget_entries p ds))
 unfolding LegalStep

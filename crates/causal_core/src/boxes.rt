@@ -50,7 +50,6 @@ pub(crate) fn step_box(
 }
 
 /// Removes the box of slot p, and drops it.
-#[tactic(auto, using(crate::proofs::Rules::of_emptying))]
 pub(crate) fn drop_box(slots: &mut Vec<Option<Box<dyn Process + Send>>>, p: usize)
     requires { p < vec_len slots.old }
     ensures empty { HoldsNone answers p slots.new.items }
@@ -61,7 +60,6 @@ pub(crate) fn drop_box(slots: &mut Vec<Option<Box<dyn Process + Send>>>, p: usiz
 }
 
 /// Puts a box into slot p.
-#[tactic(auto, using(crate::proofs::Rules::of_filling))]
 pub(crate) fn put_box(
     slots: &mut Vec<Option<Box<dyn Process + Send>>>,
     p: usize,

@@ -81,7 +81,6 @@ pub(crate) fn record_delivery(
 }
 
 /// Records a delivery to process q, whose memory is an element of the list, and its sends.
-#[tactic(auto, using(crate::proofs::Rules::of_lent))]
 pub(crate) fn record_delivery_at(
     trace: &mut Trace,
     process_memories: &mut Vec<Option<ProcessMemory>>,
@@ -131,7 +130,6 @@ pub(crate) fn record_delivery_at(
 }
 
 /// Reserves capacity for a delivery to process q, whose memory is an element of the list.
-#[tactic(auto, using(crate::proofs::Rules::of_cells))]
 pub(crate) fn reserve_delivery_at(
     process_memories: &mut Vec<Option<ProcessMemory>>,
     q: Pid,

@@ -12,7 +12,7 @@ use causal_name::{Det, NoMemory, Pid};
 use std::alloc::Global;
 
 /// Adds the logs of the up processes to a log.
-#[tactic(auto, unfolding(causal_protocol::specs::Gathering::with_logs_of), using(crate::proofs::Rules::of_dropping))]
+#[tactic(auto, unfolding(causal_protocol::specs::Gathering::with_logs_of))]
 fn learn_logs(log: &mut Log, process_memories: &[Option<ProcessMemory>]) -> Result<(), NoMemory>
     ensures { OnOk result (log.new.map
         ≡ with_logs_of (memories_in process_memories.now) log.old.map) }

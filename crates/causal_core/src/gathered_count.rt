@@ -25,7 +25,6 @@ fn logs(process_memory: &Option<ProcessMemory>, det: Det) -> bool
 }
 
 /// Returns whether one of these processes logs the determinant.
-#[tactic(auto, using(crate::proofs::Rules::of_dropping))]
 fn is_logged(process_memories: &[Option<ProcessMemory>], det: Det) -> bool
     ensures { result ≡ is_logged (memories_in process_memories.now) det }
 {
@@ -45,7 +44,6 @@ fn is_unseen<S: Stable>(process_memories: &[Option<ProcessMemory>], store: &S, d
 }
 
 /// Returns the number of determinants of a log that neither the store nor the log of one of these processes contains.
-#[tactic(auto, using(crate::proofs::Rules::of_counting))]
 fn count_unseen<S: Stable>(
     process_memories: &[Option<ProcessMemory>],
     store: &S,

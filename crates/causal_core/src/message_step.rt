@@ -86,7 +86,6 @@ fn step_with_kept(
 }
 
 /// Steps the box of slot q with the named message, whose sender's memory is an element of the list.
-#[tactic(auto, using(crate::proofs::Rules::of_lent, crate::proofs::Cells::set_read))]
 pub(crate) fn step_with_message_at(
     slots: &mut Vec<Option<Box<dyn Process + Send>>>,
     q: usize,

@@ -82,7 +82,6 @@ fn list_pending(
 }
 
 /// Returns what is pending for q, which must be up.
-#[tactic(auto, using(crate::proofs::Rules::of_pending_rows))]
 fn pending_among(
     alloc: Global,
     trace: &Trace,
@@ -106,7 +105,6 @@ fn pending_among(
 
 impl RunData {
     /// Returns what is pending for q.
-    #[tactic(auto, using(crate::proofs::Rules::of_pending))]
     pub(crate) fn pending(&self, alloc: Global, q: Pid) -> Result<Vec<MsgName>, CoreFault>
         ensures ok { IfOk result (λ names. names.items ≡ pending_in (memories_of self.now.run) q) }
         ensures legal { OnOk result (pending_fault self.now.run q ≡ None) }

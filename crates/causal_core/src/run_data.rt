@@ -104,7 +104,6 @@ fn drop_memory(process_memories: &mut Vec<Option<ProcessMemory>>, p: usize)
 }
 
 /// Marks a determinant as stable in p's log.
-#[tactic(auto, using(crate::proofs::Rules::of_cells))]
 fn mark_det_stable_at(process_memories: &mut Vec<Option<ProcessMemory>>, p: Pid, det: Det)
     requires { is_some (present_at (memories_in process_memories.old.items) p.0) ≡ true }
     ensures memories { memories_in process_memories.new.items
@@ -188,7 +187,7 @@ impl RunData {
 
     /// Returns the first refusal that applies to the delivery, if there is one. `stored` is what stable storage
     /// contains for q's next delivery.
-    #[tactic(auto, unfolding(causal_protocol::specs::Refusals::request_refusals), using(crate::proofs::Rules::of_receiving))]
+    #[tactic(auto, unfolding(causal_protocol::specs::Refusals::request_refusals))]
     fn delivery_fault(
         &self,
         q: Pid,
@@ -278,7 +277,6 @@ impl RunData {
     }
 
     /// Checks a delivery, and makes everything that it must allocate: its plan and the reserved capacity.
-    #[tactic(auto, using(crate::proofs::MemoriesFit::tells_reason))]
     pub(crate) fn prepare(
         &mut self,
         alloc: Global,
@@ -345,7 +343,6 @@ impl RunData {
 
     /// Returns the message that is named for q's next delivery. `stored` is what stable storage contains for that
     /// delivery.
-    #[tactic(auto, using(crate::proofs::Rules::of_receiving))]
     pub(crate) fn named_message(
         &self,
         q: Pid,
@@ -414,7 +411,6 @@ impl RunData {
     }
 
     /// Records that a flush of p wrote a determinant.
-    #[tactic(auto, using(crate::proofs::Rules::of_marking))]
     pub(crate) fn record_stable(&mut self, p: Pid, det: Det)
         requires process { p.0 < self.old.run.recording.processes }
         requires up { is_some (present_at (memories_of self.old.run) p.0) ≡ true }

@@ -20,7 +20,6 @@ use causal_trace::entry::{Dets, Entry};
 use std::alloc::Global;
 
 /// Removes from p's log the determinants that p knows to be stable.
-#[tactic(auto, using(crate::proofs::Rules::of_cells))]
 fn drop_stable_at(process_memories: &mut Vec<Option<ProcessMemory>>, p: Pid)
     requires { is_some (present_at (memories_in process_memories.old.items) p.0) ≡ true }
     ensures memories { memories_in process_memories.new.items
@@ -135,7 +134,7 @@ impl RunData {
     }
 
     /// Removes from p's log the determinants that p knows to be stable, and returns their number.
-    #[tactic(auto, unfolding(causal_protocol::specs::Steps::LegalStep), using(crate::proofs::Rules::of_forgetting))]
+    #[tactic(auto, unfolding(causal_protocol::specs::Steps::LegalStep))]
     pub(crate) fn forget(&mut self, alloc: Global, p: Pid) -> Result<u32, CoreFault>
         ensures step { Steps self.old.run (Requests.Forget p)
             (reply_of_forget result) self.new.run }
@@ -157,7 +156,6 @@ impl RunData {
     }
 
     /// Records that p forgets these determinants, which must be all that it knows to be stable.
-    #[tactic(auto, using(crate::proofs::Rules::of_dropped))]
     fn record_forget(&mut self, p: Pid, listed: Vec<Det>) -> u32
         requires legal { request_fault self.old.run (Requests.Forget p) ≡ None }
         requires listed { listed.items ≡ dets_to_forget self.old.run p }

@@ -156,7 +156,6 @@ impl RunData {
     }
 
     /// Returns the plan of a restart of p with the log that it gathers, if the restart is not refused.
-    #[tactic(auto, using(crate::proofs::Rules::of_reasons))]
     fn checked_restart_plan(
         &mut self,
         alloc: Global,

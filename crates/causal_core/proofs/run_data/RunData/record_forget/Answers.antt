@@ -1,11 +1,17 @@
-use Rattle.std.proofs.Common.{◌≡◌, ◌∙◌, ap, sym, None}
+use Rattle.std.proofs.Common.{◌≡◌, ◌∙◌, ap, arith, sym, None}
 use Rattle.causal_protocol.specs.declared.request.Request.TheVariants as Requests
 use Rattle.causal_protocol.specs.Refusals.{request_fault, dets_to_forget}
 use Rattle.causal_core.specs.View.{run_from}
 use Rattle.causal_core.specs.Inside.Memories.{memories_in}
 use Rattle.causal_core.proofs.MemoriesFit.{held_fit}
-use Rattle.causal_core.proofs.Forgotten.{forgotten_held, forget_legal}
+use Rattle.causal_core.proofs.Forgotten.{forgotten_held, forget_few, forget_legal}
 use Rattle.causal_core.proofs.run_data.RunData.record_forget.Goals as goal
+
+pub overflow_cast-count : goal.overflow_cast-count
+overflow_cast-count c = grind (arith, forget_few)
+
+pub push_reserved-requires-clause-legal : goal.push_reserved-requires-clause-legal
+push_reserved-requires-clause-legal c = grind (arith, held_fit, forget_legal)
 
 pub invariant_of-self : goal.invariant_of-self
 invariant_of-self c =

@@ -9,6 +9,9 @@ use Rattle.causal_core.proofs.MemoriesFit.{held_fit}
 use Rattle.causal_core.proofs.FlushSteps.{stable_may, stable_held}
 use Rattle.causal_core.proofs.run_data.RunData.record_stable.Goals as goal
 
+pub push_stable_reserved-requires-clause-legal : goal.push_stable_reserved-requires-clause-legal
+push_stable_reserved-requires-clause-legal c = grind (arith, held_fit, stable_may)
+
 pub invariant_of-self : goal.invariant_of-self
 invariant_of-self c =
     let r = run_from c.self.inside.trace.recording c.self.inside.faults c.self.inside.writers.items in
