@@ -26,7 +26,7 @@ pub struct HolderHistory {
 pub(crate) fn lists_det(listed: &Dets, det: Det) -> bool
     ensures { result ≡ list_has listed.now det }
 {
-    listed.as_slice().iter().any(|other| det == *other)
+    listed.as_slice().contains(&det)
 }
 
 /// Returns how an entry changes which logs contain the determinant.

@@ -1,5 +1,5 @@
 //! Marks of the events of a kind, by the logs that contain a determinant.
-ghost use Rattle.std.specs.Prelude.{◌≡◌, ◌≤◌, List, IfOk, length, reverse};
+ghost use Rattle.std.specs.Prelude.{◌≡◌, ◌≤◌, List, IfOk, false, length, reverse, slice_index_or};
 ghost use Rattle.causal_name.specs.declared.Det.{Det};
 ghost use Rattle.causal_trace.specs.declared.entry.Entry.{Entry};
 ghost use Rattle.causal_trace.specs.Limits.{max_entries};
@@ -38,6 +38,16 @@ fn is_of_kind(kind: EventKind, entry: &Entry, standings: &[Validity]) -> bool
             Entry::Send { from, .. } => log_has_det(standings, from.0),
             _ => false,
         },
+    }
+}
+
+/// Whether a position is marked.
+pub(crate) fn is_marked(marks: &[bool], position: u32) -> bool
+    ensures { result ≡ slice_index_or marks.now position false }
+{
+    match marks.get(position as usize) {
+        Some(mark) => *mark,
+        None => false,
     }
 }
 

@@ -4,7 +4,7 @@ ghost use Rattle.causal_trace.specs.Past.{instant};
 ghost use Rattle.causal_explain.specs.Chains.{first_lacking};
 ghost use Rattle.causal_explain.specs.Inside.Marks.{first_in};
 
-use crate::marks::{EventKind, events_of_kind};
+use crate::marks::{EventKind, events_of_kind, is_marked};
 use causal_name::{Det, NoMemory};
 use causal_trace::trace::Trace;
 use std::alloc::Global;
@@ -35,8 +35,10 @@ pub(crate) fn first_lacking(
 fn first_in(marked: &[bool], positions: &[u32]) -> Option<u32>
     ensures { result ≡ first_in marked.now positions.now }
 {
-    positions
-        .iter()
-        .copied()
-        .find(|position| marked.get(*position as usize) == Some(&true))
+    for position in positions {
+        if is_marked(marked, *position) {
+            return Some(*position);
+        }
+    }
+    None
 }

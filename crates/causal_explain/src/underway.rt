@@ -11,7 +11,7 @@ ghost use Rattle.causal_explain.specs.Inside.Transits.{AreInTransit};
 ghost use Rattle.causal_explain.specs.Inside.Validities.{AreValidities};
 
 use crate::holdings::{holder_validity, lists_det, log_has_det};
-use crate::marks::{EventKind, events_of_kind};
+use crate::marks::{EventKind, events_of_kind, is_marked};
 use crate::validity::Validity;
 use causal_name::{Det, NoMemory};
 use causal_trace::entry::Entry;
@@ -56,7 +56,7 @@ fn sends_in_transit(alloc: Global, entries: &[Entry], det: Det) -> Result<Vec<bo
 fn is_marked_before(marks: &[bool], position: u32, end: u32) -> bool
     ensures { result ≡ (nat_lt position end && slice_index_or marks.now position false) }
 {
-    position < end && marks.get(position as usize) == Some(&true)
+    position < end && is_marked(marks, position)
 }
 
 /// Whether three facts hold.

@@ -1,5 +1,6 @@
-use Rattle.std.proofs.Common.{refl, arith}
+use Rattle.std.proofs.Common.{◌≡◌, length, refl, subst, arith}
 use Rattle.causal_trace.specs.Past.{is_down}
+use Rattle.causal_explain.specs.ProcessFacts.{AreDown}
 use Rattle.causal_explain.proofs.StandingLemmas.{tells_one, tells_skipped, holds_now}
 use Rattle.causal_explain.proofs.down_processes.down_in.Goals.{in-Some, in_default}
 use Rattle.causal_explain.proofs.down_processes.down_in.Goals as goal
@@ -23,4 +24,6 @@ loop-p-preserved c =
     ]
 
 pub returns : goal.returns
-returns c past stand = grind (arith, c.loop-p.invariant.told past stand)
+returns c past stand =
+    let ended : c.loop-p.p ≡ length c.args.standings.now = omega (arith, c.loop-p-test.false, c.loop-p.auto.p-end) in
+    subst (λ n. AreDown n past c.loop-p.down.items) ended (c.loop-p.invariant.told past stand)

@@ -1,5 +1,6 @@
-use Rattle.std.proofs.Common.{refl, arith}
+use Rattle.std.proofs.Common.{◌≡◌, length, refl, subst, arith}
 use Rattle.causal_trace.specs.Past.{logs}
+use Rattle.causal_explain.specs.ProcessFacts.{AreHoldings}
 use Rattle.causal_explain.proofs.StandingLemmas.{tells_one, tells_skipped, holds_now}
 use Rattle.causal_explain.proofs.holdings.holdings_in.Goals.{in-Some, in_default}
 use Rattle.causal_explain.proofs.holdings.holdings_in.Goals as goal
@@ -23,4 +24,6 @@ loop-p-preserved c =
     ]
 
 pub returns : goal.returns
-returns c past d stand = grind (arith, c.loop-p.invariant.told past d stand)
+returns c past d stand =
+    let ended : c.loop-p.p ≡ length c.args.standings.now = omega (arith, c.loop-p-test.false, c.loop-p.auto.p-end) in
+    subst (λ n. AreHoldings n past d c.loop-p.holdings.items) ended (c.loop-p.invariant.told past d stand)

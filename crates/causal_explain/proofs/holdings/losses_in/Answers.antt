@@ -1,7 +1,8 @@
-use Rattle.std.proofs.Common.{◌∙◌, refl, reverse, sym, ap, arith}
+use Rattle.std.proofs.Common.{◌≡◌, ◌∙◌, length, refl, reverse, sym, ap, subst, arith}
 use Rattle.causal_trace.specs.Past.{logs}
 use Rattle.causal_trace.proofs.Lemmas.Instants.{entry_of}
 use Rattle.causal_explain.specs.Inside.Losing.{lost_by}
+use Rattle.causal_explain.specs.ProcessFacts.{AreLosses}
 use Rattle.causal_explain.proofs.StandingLemmas.{tells_one, tells_skipped, is_loss, lost_now}
 use Rattle.causal_explain.proofs.holdings.losses_in.Goals.{in-Some, in_default}
 use Rattle.causal_explain.proofs.holdings.losses_in.Goals as goal
@@ -28,4 +29,6 @@ loop-p-preserved c =
     ]
 
 pub returns : goal.returns
-returns c d stand = grind (arith, c.loop-p.invariant.told d stand)
+returns c d stand =
+    let ended : c.loop-p.p ≡ length c.args.standings.now = omega (arith, c.loop-p-test.false, c.loop-p.auto.p-end) in
+    subst (λ n. AreLosses n (reverse c.args.entries.now) d c.loop-p.losses.items) ended (c.loop-p.invariant.told d stand)
