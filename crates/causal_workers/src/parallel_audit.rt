@@ -134,7 +134,8 @@ fn run_shares<'s, 't: 's, 'g: 's, E, G: Gate + Sync, R: Threads>(
         to: prepared.share_end(0, workers),
     };
     if !start_workers(scope, &mut started, alloc, trace, own, workers, gate) {
-        join_and_discard(rt, started);
+        // what the started workers found does not matter
+        let _ = join_earliest(rt, Ok(None), started);
         return Err(AuditFault::NoWorker);
     }
     let first = own.judge(alloc, trace, 0, gate);
@@ -173,9 +174,7 @@ fn start_workers<'s, 't: 's, 'g: 's, E, G: Gate + Sync>(
         let Ok(handle) = scope.spawn_with(share, work) else {
             return false;
         };
-        if started.push(handle).is_err() {
-            unreachable!()
-        }
+        started.push_reserved(handle);
         from = to;
     }
     true
@@ -203,11 +202,4 @@ fn join_earliest<'t, R: Threads>(
         least = earlier_result(least, handle.join(rt));
     }
     least
-}
-
-/// Joins the workers and discards their results.
-fn join_and_discard<'t, R: Threads>(rt: &R, started: Vec<RunningShare<'t>>) {
-    for handle in started {
-        let _ = handle.join(rt);
-    }
 }

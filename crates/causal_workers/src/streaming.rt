@@ -205,10 +205,10 @@ fn breach_so_far<G: Gate + Sync, R: Threads + Wait>(
         return Ok(None);
     }
     let judged = judge_trace(rt, alloc, trace, f, workers, gate)?;
-    Ok(match judged.verdict {
-        Verdict::Accept => None,
-        Verdict::Exceeded { .. } | Verdict::Orphan { .. } => Some(judged),
-    })
+    match judged.verdict {
+        Verdict::Accept => Ok(None),
+        Verdict::Exceeded { .. } | Verdict::Orphan { .. } => Ok(Some(judged)),
+    }
 }
 
 /// Returns the judgement of a whole text, after its last byte.

@@ -1,6 +1,5 @@
 use Rattle.std.proofs.Common.{◌≡◌, ◌∙◌, sym, true, false}
 use Rattle.causal_workers.proofs.streaming.breach_so_far.Goals as goal
-use Rattle.causal_workers.proofs.streaming.breach_so_far.Goals.{in-Accept, in-Exceeded}
 
 pub returns-in_default-clause-none : goal.returns-in_default-clause-none
 returns-in_default-clause-none g c = λ most b r fed says look. absurd (c.in_default.ensures.none most b r fed says)
@@ -10,9 +9,5 @@ returns-then-not-has-clause-none g c = λ most b r fed says look.
     let yes : c.has.result ≡ true = c.has.ensures.1 (rw (c.len.ensures.length, c.in-Some.ensures.unique most b r fed says) look) in
     absurd (let bad : false ≡ true = sym c.if-not-has.true ∙ yes in cc)
 
-pub returns-clause-none : goal.returns-clause-none
-returns-clause-none g c =
-    elim c.match-judged.branch [
-      | in-Accept w ↦ rw w.result-is (λ most b r fed says look. rw (w.in-Accept.is, c.in-Some.ensures.unique most b r fed says) at c.in_ok-judged.ensures.verdict)
-      | in-Exceeded w ↦ rw w.result-is tt
-    ]
+pub returns-in-Accept-clause-none : goal.returns-in-Accept-clause-none
+returns-in-Accept-clause-none g c = λ most b r fed says look. rw (c.in-Accept.is, c.in-Some.ensures.unique most b r fed says) at c.in_ok-judged.ensures.verdict
