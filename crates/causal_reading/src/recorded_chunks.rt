@@ -20,18 +20,11 @@ pub(crate) fn read_lines_by<R: Threads>(
     ensures { IsReadBy reader (lines bytes.now) result }
 {
     if bytes.len() <= UNDIVIDED {
-        return read_here(reader, bytes);
+        return reader.feed(bytes);
     }
     let chunks = (bytes.len() / CHUNK).min(workers as usize);
     let lengths = Lengths::in_turn(checking_percent(bytes));
     read_chunks(rt, alloc, reader, bytes, chunks, lengths)
-}
-
-/// Reads more whole lines in the calling thread.
-fn read_here(reader: RecordingReader, bytes: &[u8]) -> Result<RecordingReader, MergeFault>
-    ensures { IsReadBy reader (lines bytes.now) result }
-{
-    reader.feed(bytes)
 }
 
 /// Reads more whole lines, whose chunks are parsed at the same time: the last by a thread of its own, those before it in
@@ -48,7 +41,7 @@ fn read_chunks<R: Threads>(
     ensures { IsReadBy reader (lines bytes.now) result }
 {
     if chunks < 2 {
-        return read_here(reader, bytes);
+        return reader.feed(bytes);
     }
     let (front, last) = split_lines(bytes, front_len(bytes.len(), chunks, lengths));
     if last.is_empty() {
