@@ -1,4 +1,4 @@
--- The digits of a number are printable characters.
+-- Texts of printable characters: the digits of a number, and what follows them or words.
 use Rattle.std.proofs.Common.{◌≡◌, ◌<◌, ◌++◌, ℕ, Bool, true, false, List, [], ◌∷◌, zero, suc, refl, ap, ◌∙◌, arith}
 use Rattle.std.specs.Prelude.{◌/◌, ◌%◌, ◌==◌, ◌&&◌, if◌then◌else◌, decimal}
 use Rattle.std.specs.Fmt.{digit_glyph, digits_onto, digits}
@@ -30,3 +30,9 @@ printable_number n = onto_printable 64 n [] refl
 -- and so is what follows it, if that is
 pub printable_then : (n : ℕ) (rest : List ℕ) → list_all is_printable (decimal n ++ rest) ≡ list_all is_printable rest
 printable_then n rest = list_all-append is_printable (decimal n) rest ∙ ap (λ b. b && list_all is_printable rest) (printable_number n)
+
+-- what follows printable words is printable if it is so by itself
+pub printable_after : (words rest : List ℕ) → list_all is_printable words ≡ true → list_all is_printable (words ++ rest) ≡ list_all is_printable rest
+printable_after words rest h = list_all-append is_printable words rest ∙ ap (λ b. b && list_all is_printable rest) h
+
+pub ruleset printable = (printable_number, printable_then)

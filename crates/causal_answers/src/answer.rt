@@ -1,8 +1,10 @@
 //! Answers to questions on a trace, as lines and as JSON.
-ghost use Rattle.std.specs.Prelude.{◌≡◌, IfOk, OnOk, flat_map};
+ghost use Rattle.std.specs.Prelude.{◌≡◌, ◌++◌, ℕ, List, IfOk, OnOk, flat_map};
 ghost use Rattle.std.specs.String.{string_bytes};
 ghost use Rattle.causal_answers.specs.Bounds.{bounds_line};
+ghost use Rattle.causal_answers.specs.Findings.{finding_line};
 ghost use Rattle.causal_answers.specs.Inside.Appends.{Appends, Writes};
+ghost use Rattle.causal_answers.specs.Lines.{AreFactLines};
 ghost use Rattle.causal_answers.specs.Answers as answers;
 
 use crate::bounds::{Bounds, push_bounds_lines, push_bounds_objects};
@@ -42,22 +44,27 @@ fn answer_lines(alloc: Global, answer: &Answer) -> Result<Vec<u8>, NoMemory>
     ensures { IfOk result (λ text. answers.IsAnswerText Form.Lines answer.now text.items) }
 {
     match answer {
-        Answer::Found { finding, facts } => {
-            let reason = facts_text(alloc, facts.as_slice())?;
-            let mut text = finding_line(alloc, finding)?;
-            text.extend_from_slice(reason.as_slice())?;
-            Ok(text)
-        }
-        Answer::Ranges { ranges } => Ok(range_lines(alloc, ranges.as_slice())?.into_bytes()),
+        Answer::Found { finding, facts } => found_lines(alloc, finding, facts.as_slice()),
+        Answer::Ranges { ranges } => range_lines(alloc, ranges.as_slice()),
     }
 }
 
-fn range_lines(alloc: Global, ranges: &[Bounds]) -> Result<String, AllocError>
-    ensures { IfOk result (λ text. string_bytes text ≡ flat_map bounds_line ranges.now) }
+fn found_lines(alloc: Global, finding: &Finding, facts: &[Fact]) -> Result<Vec<u8>, NoMemory>
+    ensures { IfOk result (λ text. (reason : List ℕ)
+        × AreFactLines facts.now reason × (text.items ≡ finding_line finding.now ++ reason)) }
+{
+    let reason = facts_text(alloc, facts)?;
+    let mut text = finding_line(alloc, finding)?;
+    text.extend_from_slice(reason.as_slice())?;
+    Ok(text)
+}
+
+fn range_lines(alloc: Global, ranges: &[Bounds]) -> Result<Vec<u8>, NoMemory>
+    ensures { IfOk result (λ text. text.items ≡ flat_map bounds_line ranges.now) }
 {
     let mut out = String::new(alloc);
     push_bounds_lines(&mut out, ranges)?;
-    Ok(out)
+    Ok(out.into_bytes())
 }
 
 fn answer_object(alloc: Global, answer: &Answer) -> Result<String, AllocError>

@@ -5,7 +5,7 @@ ghost use Rattle.causal_answers.specs.Fields as fields;
 
 use crate::field_printing::{push_empty_field, push_line, push_number, push_process, push_word};
 use crate::place::line_before;
-use causal_facts::{Cause, ChainEvent, ClosestFailure, Fact, Form, Loss, LostBy, Stray};
+use causal_facts::{Cause, ChainEvent, ClosestFailure, Fact, Form, Holding, Loss, LostBy, Stray};
 use causal_name::Det;
 use causal_trace::entry::line_at;
 use std::alloc::AllocError;
@@ -34,12 +34,22 @@ pub(crate) fn push_fields(out: &mut String, form: Form, fact: &Fact) -> Result<(
         Fact::Closest(closest) => push_closest(out, form, *closest),
         Fact::Never => push_empty_field(out, form, "faults"),
         Fact::Strayed(stray) => push_stray(out, form, *stray),
-        Fact::Logged { delivery, holding } => {
-            push_number(out, form, "delivery", u64::from(*delivery))?;
-            push_process_at(out, form, holding.process, holding.since)
-        }
+        Fact::Logged { delivery, holding } => push_logged(out, form, *delivery, holding),
         Fact::Stable { delivery } => push_number(out, form, "delivery", u64::from(*delivery)),
     }
+}
+
+fn push_logged(
+    out: &mut String,
+    form: Form,
+    delivery: u32,
+    holding: &Holding,
+) -> Result<(), AllocError>
+    ensures { OnOk result (Appends out.old out.new
+        (fields.fields_of form (Fact.Logged delivery holding.now))) }
+{
+    push_number(out, form, "delivery", u64::from(delivery))?;
+    push_process_at(out, form, holding.process, holding.since)
 }
 
 fn push_process_at(

@@ -1,14 +1,12 @@
 //! The sentences of facts, for people.
-#![tactic(auto, using(crate::proofs::Printable::printable_number, crate::proofs::Printable::printable_then))]
+#![tactic(auto, using(crate::proofs::Printable::printable))]
 
 ghost use Rattle.causal_answers.specs.Inside.Appends.{Writes};
 ghost use Rattle.causal_answers.specs.Sentences.{IsPrintable, IsSentence};
 
 use crate::field_printing::push_text;
 use crate::place::line_before;
-use causal_facts::{
-    Cause, ChainEvent, ClosestFailure, DownProcess, Fact, Holding, Loss, LostBy, Stray,
-};
+use causal_facts::{Cause, ChainEvent, ClosestFailure, Fact, Holding, Loss, LostBy, Stray};
 use causal_name::Det;
 use causal_trace::entry::line_at;
 use std::alloc::AllocError;
@@ -26,14 +24,30 @@ fn push_words(out: &mut String, fact: &Fact) -> Result<(), AllocError>
     ensures { Writes result out.old out.new IsPrintable }
 {
     match fact {
-        Fact::Down(down) => push_down(out, down),
+        Fact::Down(down) => push_at_line(
+            out,
+            down.process,
+            "is down since its crash at",
+            line_at(down.since),
+            "",
+        ),
         Fact::Delivery { det, .. } => push_delivery(out, det),
         Fact::Cause { cause, .. } => push_cause(out, *cause),
         Fact::Unstable { instant } => push_unstable(out, line_before(*instant)),
-        Fact::Holder(holding) => push_holder(out, holding),
+        Fact::Holder(holding) => push_at_line(
+            out,
+            holding.process,
+            "has the determinant in its log since",
+            line_at(holding.since),
+            "",
+        ),
         Fact::NoHolder => push_text(out, "no process has the determinant in its log"),
         Fact::Loss(loss) => push_loss(out, loss),
-        Fact::Crash { process } => push_crash(out, *process),
+        Fact::Crash { process } => push_process(
+            out,
+            *process,
+            "is in the crash set, under which nobody has the determinant",
+        ),
         Fact::Chain { event, .. } => push_event(out, *event),
         Fact::Unlisted { event, is_own, .. } => push_unlisted(out, *event, *is_own),
         Fact::Listed => push_text(
@@ -46,7 +60,11 @@ fn push_words(out: &mut String, fact: &Fact) -> Result<(), AllocError>
             line_at(*send),
             *to,
         ),
-        Fact::Orphan { process } => push_orphan(out, *process),
+        Fact::Orphan { process } => push_process(
+            out,
+            *process,
+            "depends on the delivery by this chain, and lacks its determinant",
+        ),
         Fact::Closest(closest) => push_closest(out, closest),
         Fact::Never => push_text(out, "no delivery has an orphan, whatever f is"),
         Fact::Strayed(stray) => push_stray(out, stray),
@@ -55,23 +73,38 @@ fn push_words(out: &mut String, fact: &Fact) -> Result<(), AllocError>
     }
 }
 
-fn push_down(out: &mut String, down: &DownProcess) -> Result<(), AllocError>
+/// Appends a process and what is said of it.
+#[tactic(auto, using(crate::proofs::Printable::printable, crate::proofs::Printable::printable_after))]
+fn push_process(out: &mut String, process: u8, words: &str) -> Result<(), AllocError>
+    requires { IsPrintable words.now }
     ensures { Writes result out.old out.new IsPrintable }
 {
-    let (process, line) = (down.process, line_at(down.since));
-    write!(
-        out,
-        "process {process} is down since its crash at line {line}"
-    )
+    write!(out, "process {process} {words}")
+}
+
+/// Appends a process, what is said of it at a line, and the rest of the sentence.
+#[tactic(auto, using(crate::proofs::Printable::printable, crate::proofs::Printable::printable_after))]
+fn push_at_line(
+    out: &mut String,
+    process: u8,
+    words: &str,
+    line: u64,
+    rest: &str,
+) -> Result<(), AllocError>
+    requires words { IsPrintable words.now }
+    requires rest { IsPrintable rest.now }
+    ensures { Writes result out.old out.new IsPrintable }
+{
+    write!(out, "process {process} {words} line {line}{rest}")
 }
 
 fn push_delivery(out: &mut String, det: &Det) -> Result<(), AllocError>
     ensures { Writes result out.old out.new IsPrintable }
 {
-    let (source, ssn, dest, rsn) = (det.source.0, det.ssn, det.dest.0, det.rsn);
     write!(
         out,
-        "process {dest} delivers message {ssn} of process {source}, as its delivery {rsn}"
+        "process {} delivers message {} of process {}, as its delivery {}",
+        det.dest.0, det.ssn, det.source.0, det.rsn
     )
 }
 
@@ -79,29 +112,27 @@ fn push_cause(out: &mut String, cause: Cause) -> Result<(), AllocError>
     ensures { Writes result out.old out.new IsPrintable }
 {
     match cause {
-        Cause::Delivery { process, send } => push_delivery_cause(out, process, line_at(send)),
-        Cause::Restart { process } => write!(
+        Cause::Delivery { process, send } => push_at_line(
             out,
-            "process {process} restarts, and does not list the determinant, which is in the log of another"
+            process,
+            "delivers what",
+            line_at(send),
+            " sends, so it depends on the delivery, and its log lacks the determinant",
         ),
-        Cause::Forgetting { process } => write!(
+        Cause::Restart { process } => push_process(
             out,
-            "process {process} forgets the determinant, which is not in stable storage"
+            process,
+            "restarts, and does not list the determinant, which is in the log of another",
         ),
-        Cause::Crash { process } => write!(
+        Cause::Forgetting { process } => push_process(
             out,
-            "process {process} crashes, and more are down than may be"
+            process,
+            "forgets the determinant, which is not in stable storage",
         ),
+        Cause::Crash { process } => {
+            push_process(out, process, "crashes, and more are down than may be")
+        }
     }
-}
-
-fn push_delivery_cause(out: &mut String, process: u8, send: u64) -> Result<(), AllocError>
-    ensures { Writes result out.old out.new IsPrintable }
-{
-    write!(
-        out,
-        "process {process} delivers what line {send} sends, so it depends on the delivery, and its log lacks the determinant"
-    )
 }
 
 fn push_unstable(out: &mut String, line: u64) -> Result<(), AllocError>
@@ -113,39 +144,26 @@ fn push_unstable(out: &mut String, line: u64) -> Result<(), AllocError>
     )
 }
 
-fn push_holder(out: &mut String, holding: &Holding) -> Result<(), AllocError>
-    ensures { Writes result out.old out.new IsPrintable }
-{
-    let (process, line) = (holding.process, line_at(holding.since));
-    write!(
-        out,
-        "process {process} has the determinant in its log since line {line}"
-    )
-}
-
 fn push_loss(out: &mut String, loss: &Loss) -> Result<(), AllocError>
     ensures { Writes result out.old out.new IsPrintable }
 {
-    let (process, line) = (loss.process, line_at(loss.lost));
+    let line = line_at(loss.lost);
     match loss.by {
-        LostBy::Crash => write!(
+        LostBy::Crash => push_at_line(
             out,
-            "process {process} lost the determinant from its log at line {line}, by its crash"
+            loss.process,
+            "lost the determinant from its log at",
+            line,
+            ", by its crash",
         ),
-        LostBy::Forgetting => write!(
+        LostBy::Forgetting => push_at_line(
             out,
-            "process {process} lost the determinant from its log at line {line}, by forgetting it"
+            loss.process,
+            "lost the determinant from its log at",
+            line,
+            ", by forgetting it",
         ),
     }
-}
-
-fn push_crash(out: &mut String, process: u8) -> Result<(), AllocError>
-    ensures { Writes result out.old out.new IsPrintable }
-{
-    write!(
-        out,
-        "process {process} is in the crash set, under which nobody has the determinant"
-    )
 }
 
 fn push_event(out: &mut String, event: ChainEvent) -> Result<(), AllocError>
@@ -155,15 +173,11 @@ fn push_event(out: &mut String, event: ChainEvent) -> Result<(), AllocError>
         ChainEvent::Send { from, to, ssn } => {
             write!(out, "process {from} sends message {ssn} to process {to}")
         }
-        ChainEvent::Delivery { to, send } => push_arrival(out, to, line_at(send)),
+        ChainEvent::Delivery { to, send } => {
+            push_at_line(out, to, "delivers what", line_at(send), " sends")
+        }
         ChainEvent::Other => push_text(out, "no event"),
     }
-}
-
-fn push_arrival(out: &mut String, process: u8, send: u64) -> Result<(), AllocError>
-    ensures { Writes result out.old out.new IsPrintable }
-{
-    write!(out, "process {process} delivers what line {send} sends")
 }
 
 fn push_unlisted(out: &mut String, event: ChainEvent, is_own: bool) -> Result<(), AllocError>
@@ -179,9 +193,12 @@ fn push_missing(out: &mut String, is_own: bool, to: u8, send: u64) -> Result<(),
     ensures { Writes result out.old out.new IsPrintable }
 {
     if is_own {
-        write!(
+        push_at_line(
             out,
-            "process {to} delivers what line {send} sends, and does not log the determinant"
+            to,
+            "delivers what",
+            send,
+            " sends, and does not log the determinant",
         )
     } else {
         write!(
@@ -200,48 +217,41 @@ fn push_underway(out: &mut String, line: u64, send: u64, to: u8) -> Result<(), A
     )
 }
 
-fn push_orphan(out: &mut String, process: u8) -> Result<(), AllocError>
-    ensures { Writes result out.old out.new IsPrintable }
-{
-    write!(
-        out,
-        "process {process} depends on the delivery by this chain, and lacks its determinant"
-    )
-}
-
 fn push_closest(out: &mut String, closest: &ClosestFailure) -> Result<(), AllocError>
     ensures { Writes result out.old out.new IsPrintable }
 {
-    let (faults, line) = (closest.faults, line_at(closest.delivery));
-    let (orphan, until) = (closest.orphan, line_before(closest.instant));
     write!(
         out,
-        "for f={faults} the delivery of line {line} has an orphan, process {orphan}, once line {until} is read; for a smaller f none has one"
+        "for f={} the delivery of line {} has an orphan, process {}, once line {} is read; for a smaller f none has one",
+        closest.faults,
+        line_at(closest.delivery),
+        closest.orphan,
+        line_before(closest.instant)
     )
 }
 
 fn push_stray(out: &mut String, stray: &Stray) -> Result<(), AllocError>
     ensures { Writes result out.old out.new IsPrintable }
 {
-    let (line, rsn, process) = (
+    write!(
+        out,
+        "after line {} two determinants of delivery {} of process {} survive, those of lines {} and {}",
         line_before(stray.instant),
         stray.slot.rsn,
         stray.slot.dest.0,
-    );
-    let (first, second) = (line_at(stray.first), line_at(stray.second));
-    write!(
-        out,
-        "after line {line} two determinants of delivery {rsn} of process {process} survive, those of lines {first} and {second}"
+        line_at(stray.first),
+        line_at(stray.second)
     )
 }
 
 fn push_logged(out: &mut String, delivery: u64, holding: &Holding) -> Result<(), AllocError>
     ensures { Writes result out.old out.new IsPrintable }
 {
-    let (process, line) = (holding.process, line_at(holding.since));
     write!(
         out,
-        "process {process} has the determinant of the delivery of line {delivery} in its log since line {line}"
+        "process {} has the determinant of the delivery of line {delivery} in its log since line {}",
+        holding.process,
+        line_at(holding.since)
     )
 }
 
