@@ -1,2 +1,3 @@
+mod FactLists
 mod SetMembers
 mod StoredLemmas
