@@ -65,6 +65,10 @@ note_dets-requires-clause-copied c =
     let b = (goal.at.note_dets-requires-clause-copied c).After-copied_by in
     listed_copied c.args.trace.now.recording c.entries-recorded.ensures.formed c.loop-t.t c.index-recorded-t.result (inside b) (next b) c.loop-t.copies c.apply_entry.new.copies c.loop-t.invariant.copied (copied b) c.copied_by.result.now c.copied_by.ensures
 
+pub overflow_add-instant : goal.overflow_add-instant
+overflow_add-instant c =
+    omega (arith, c.loop-t-test.true, c.entries-recorded.ensures.few, how_many c.args.trace.now.recording c.entries-recorded.result.now c.entries-recorded.ensures.value)
+
 pub first_two-first-requires-clause-two : goal.first_two-first-requires-clause-two
 first_two-first-requires-clause-two c =
     let b = (goal.at.first_two-first-requires-clause-two c).After-copied_by in
