@@ -55,12 +55,11 @@ pub fn print_trace_outcome<R: Eprint + AllocGlobal, S: Drop>(
 ) -> Ended
     ensures { result ≡ outcome.ended }
 {
-    let Outcome { ended, fault } = outcome;
-    if let Some(fault) = fault {
-        print_trace_fault(rt, command, input, f, &fault);
-        print_trace_hints(rt, command, input, &fault);
+    if let Some(fault) = &outcome.fault {
+        print_trace_fault(rt, command, input, f, fault);
+        print_trace_hints(rt, command, input, fault);
     }
-    ended
+    outcome.ended
 }
 
 /// Prints why a map is not that of the trace, with its file's name.
@@ -95,7 +94,7 @@ fn print_trace_fault<R: Eprint + AllocGlobal, S: Drop>(
             let _ = eprint!(rt; "{command}: {label}{rest}");
         }
         None => {
-            let _ = rt.eprint(text);
+            let _ = rt.eprint(text.as_str());
         }
     }
 }

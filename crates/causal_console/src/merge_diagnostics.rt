@@ -20,18 +20,11 @@ pub fn print_merge_diagnostics<R: Eprint + AllocGlobal, S: Drop>(
 ) -> Ended
     ensures { result ≡ told.ended }
 {
-    let MergeOutcome {
-        ended,
-        torn,
-        fault,
-        excerpt,
-        ..
-    } = told;
-    print_torn_lines(rt, command, input, torn.as_slice());
-    if let Some(fault) = fault {
-        print_merge_fault(rt, command, input, fault, excerpt.as_slice());
+    print_torn_lines(rt, command, input, told.torn.as_slice());
+    if let Some(fault) = &told.fault {
+        print_merge_fault(rt, command, input, fault, told.excerpt.as_slice());
     }
-    ended
+    told.ended
 }
 
 fn print_torn_lines<R: Eprint, S: Drop>(
@@ -75,12 +68,12 @@ fn print_merge_fault<R: Eprint + AllocGlobal, S: Drop>(
     rt: &R,
     command: &str,
     input: &InputNames<'_, S>,
-    fault: MergeFault,
+    fault: &MergeFault,
     start: &[u8],
 ) {
-    match merge_sentence(rt.alloc(), &fault) {
+    match merge_sentence(rt.alloc(), fault) {
         Ok(text) => print_at_line(rt, command, input, fault.line, &text),
-        Err(_) => print_at_line(rt, command, input, fault.line, &fault),
+        Err(_) => print_at_line(rt, command, input, fault.line, fault),
     }
     print_missing_headers(rt, command, &fault.kind);
     if let MergeKind::Line(kind) = &fault.kind {

@@ -56,21 +56,26 @@ pub fn open_sources<R: Files + Input>(
 ) -> std::result::Result<Sources<R>, OpenFault> {
     let mut sources = Vec::new(alloc);
     if files.is_empty() {
-        let source = Source::Standard(rt.reader());
-        if sources.push(TrackedStream::new(alloc, source)).is_err() {
-            return Err(OpenFault::NoMemory);
-        }
+        add_source(alloc, &mut sources, Source::Standard(rt.reader()))?;
     }
     for (file, name) in files.iter().enumerate() {
-        let source = match open_source(rt, name.as_str()) {
-            Ok(source) => source,
+        match open_source(rt, name.as_str()) {
+            Ok(source) => add_source(alloc, &mut sources, source)?,
             Err(error) => return Err(OpenFault::Refused { file, error }),
-        };
-        if sources.push(TrackedStream::new(alloc, source)).is_err() {
-            return Err(OpenFault::NoMemory);
         }
     }
     Ok(ChainedStream::new(sources))
+}
+
+fn add_source<S: Drop>(
+    alloc: Global,
+    sources: &mut Vec<TrackedStream<S>>,
+    source: S,
+) -> std::result::Result<(), OpenFault> {
+    match sources.push(TrackedStream::new(alloc, source)) {
+        Ok(()) => Ok(()),
+        Err(_) => Err(OpenFault::NoMemory),
+    }
 }
 
 fn open_source<R: Files + Input>(rt: &R, name: &str) -> io::Result<Source<R::Reader, R::File>> {
