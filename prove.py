@@ -21,6 +21,7 @@ MEMORY = 3_000_000_000  # bytes that one proof takes at most
 MOST_JOBS = 4  # more gain nothing
 MORE_JOBS = 2  # jobs beyond one for each processor, since no proof keeps all its jobs busy
 BEHIND = 10  # by how much a proof that is not urgent stands behind the others, in the system's priorities
+AHEAD = 1.4  # how much sooner than all the rest a chain of proofs should end, since the last crates of it leave processors idle
 FIXED, EACH_LINE = 15, 0.085  # seconds that a proof takes: for loading what is below, and for each line of code
 # How many times as long as that rule says the proofs of a crate take that is generic, or whose `main` holds the whole program.
 DEARER = {"causal_memory": 1.2, "causal_shared": 1.2, "causal_run": 1.8, "causal_runtime_commands": 1.3, PROGRAM: 1.8}
@@ -149,9 +150,9 @@ class Proving:
             self.start(name, max(1, min(MOST_JOBS, self.lanes, max(idle // (len(ready) - at), self.jobs_needed(name)))))
 
     def jobs_needed(self, name):
-        """The jobs by which the chain that begins with the crate ends no later than all work does on all processors."""
+        """The jobs by which the chain that begins with the crate ends ahead of all work on all processors."""
         work = sum(self.crates[it].cost for it in (*self.left, *self.running))
-        return round(self.behind[name] * self.lanes / work)
+        return round(AHEAD * self.behind[name] * self.lanes / work)
 
     def start(self, name, jobs):
         crate = self.crates[name]
