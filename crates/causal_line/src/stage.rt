@@ -91,9 +91,9 @@ fn refusal_with_context(
     }
 }
 
-// drops a parsed line; in a function of its own, since each drop makes a proof long
-fn discard(parsed: Result<ParsedLine, TextKind>) {
-    let _parsed = parsed;
+// drops a line; in a function of its own, since each drop makes a proof long
+fn discard<T: Drop>(line: T) {
+    let _line = line;
 }
 
 // applies the first line
@@ -103,7 +103,7 @@ fn apply_first_line(alloc: Global, limits: Limits, shape: ParsedLine) -> Result<
     match shape {
         ParsedLine::Header { version, processes } => open_text(alloc, version, processes),
         _ => {
-            discard(Ok(shape));
+            discard(shape);
             Err(TextKind::Header)
         }
     }
@@ -198,7 +198,7 @@ fn apply_line(
         },
         Stage::Within { version, trace } => apply_later_line(limits, number, version, trace, shape),
         Stage::Ended { .. } => {
-            discard(Ok(shape));
+            discard(shape);
             Err(refuse(stage, number, TextKind::After))
         }
     }
