@@ -5,7 +5,7 @@ use causal_core::{Core, CoreFault, FlushFault};
 use causal_log::{MemStable, Stable};
 use causal_name::Pid;
 use causal_process::Process;
-use causal_runtime_commands::audit_core;
+use causal_runtime_audit::audit_core;
 use std::alloc::Global;
 use std::sync::Wait;
 use std::thread::Threads;

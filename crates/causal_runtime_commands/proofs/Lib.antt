@@ -1,3 +1,2 @@
 mod PendingLemmas
 mod PrintLemmas
-mod SafeAccepts

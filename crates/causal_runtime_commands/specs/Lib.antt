@@ -1,5 +1,4 @@
 pub mod Inside
-pub mod SafeVerdicts
 pub mod Hints
 pub mod Reasons
 pub mod Runs

@@ -1,7 +1,7 @@
 -- A safe recording has no first instant that fails.
 use Rattle.std.proofs.Common.{refl}
 use Rattle.causal_audit.specs.declared.verdict.Verdict.TheVariants.{Accept, Exceeded, Orphan}
-use Rattle.causal_runtime_commands.specs.SafeVerdicts.{SafeTracesAreAccepted}
+use Rattle.causal_runtime_audit.specs.SafeVerdicts.{SafeTracesAreAccepted}
 
 -- a verdict on a safe recording is `Accept`
 pub safe_accepted : SafeTracesAreAccepted

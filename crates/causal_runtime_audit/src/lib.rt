@@ -2,9 +2,11 @@
 //!
 //! The proof of [`audit_core`] uses only the public contracts of the runtime and of the auditor, so neither depends on the
 //! other.
+#![tactic(auto)]
+
 ghost use Rattle.std.specs.Prelude.{◌≡◌, IfOk};
 ghost use Rattle.causal_core.specs.CoreView.{core_run};
-ghost use Rattle.causal_runtime_commands.specs.SafeVerdicts.{IsUniqueVerdict, SafeTracesAreAccepted};
+ghost use Rattle.causal_runtime_audit.specs.SafeVerdicts.{IsUniqueVerdict, SafeTracesAreAccepted};
 
 use causal_audit::{Verdict, verdict_of};
 use causal_core::Core;
