@@ -35,10 +35,8 @@ pub(crate) fn first_lacking(
 fn first_in(marked: &[bool], positions: &[u32]) -> Option<u32>
     ensures { result ≡ first_in marked.now positions.now }
 {
-    for position in positions {
-        if is_marked(marked, *position) {
-            return Some(*position);
-        }
-    }
-    None
+    positions
+        .iter()
+        .copied()
+        .find(|position| is_marked(marked, *position))
 }

@@ -29,21 +29,8 @@ pub(crate) fn checking_percent(piece: &[u8]) -> usize
     ensures { result ≤ 100 }
 {
     let (sample, _) = piece.split_at(piece.len().min(SAMPLE));
-    if line_feed_count(sample) > SAMPLE / 128 {
-        18
-    } else {
-        8
-    }
-}
-
-fn line_feed_count(bytes: &[u8]) -> usize {
-    let mut count = 0;
-    for byte in bytes {
-        if *byte == b'\n' {
-            count += 1;
-        }
-    }
-    count
+    let feeds = sample.iter().filter(|byte| **byte == b'\n').count();
+    if feeds > SAMPLE / 128 { 18 } else { 8 }
 }
 
 impl Lengths {
